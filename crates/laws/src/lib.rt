@@ -1,0 +1,1 @@
+// Laws about lists, buffers and tables that every layer uses, and no code.

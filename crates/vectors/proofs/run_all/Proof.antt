@@ -1,0 +1,60 @@
+-- `vectors::run_all` meets its contract. The invariant: the place is at most one past the end of the text.
+-- Assumes nothing.
+use Prim.Native.Nat.{_≤_, _<_, _+_, _-_}
+use lib.ListN.{length}
+use borrow.Author.Needs.{needs}
+use Rattle.vectors.proofs.run_all.Statement.{statement}
+use Rattle.vectors.proofs.run_all.Tie as tie
+
+abbrev Inv-loop : tie.InvT-loop
+Inv-loop s t₀ at₀ t at = at ≤ length s + 1
+
+abbrev μ-loop : tie.MeasureT-loop
+μ-loop s t₀ at₀ t at = length s + 1 - at
+
+loop-holds : tie.Need-loop-holds Inv-loop μ-loop
+loop-holds c = search needs
+
+line-end-requires : tie.Need-line-end-requires Inv-loop μ-loop
+line-end-requires c κs = search needs
+
+sub-tallied : tie.Need-sub-tallied Inv-loop μ-loop
+sub-tallied c = search needs
+
+part-tallied-start : tie.Need-part-tallied-start Inv-loop μ-loop
+part-tallied-start c = search needs
+
+part-tallied-end : tie.Need-part-tallied-end Inv-loop μ-loop
+part-tallied-end c = search needs
+
+tallied-requires : tie.Need-tallied-requires Inv-loop μ-loop
+tallied-requires c κs = search needs
+
+add-at : tie.Need-add-at Inv-loop μ-loop
+add-at c = search needs
+
+loop-less : tie.Need-loop-less Inv-loop μ-loop
+loop-less c = search needs
+
+loop-again : tie.Need-loop-again Inv-loop μ-loop
+loop-again c = search needs
+
+returns : tie.Need-returns Inv-loop μ-loop
+returns c = search needs
+
+pub run-all-spec : {M : Type 1} → statement M
+run-all-spec =
+    tie.close
+    (tie.spec
+    Inv-loop
+    μ-loop
+    loop-holds
+    line-end-requires
+    sub-tallied
+    part-tallied-start
+    part-tallied-end
+    tallied-requires
+    add-at
+    loop-less
+    loop-again
+    returns)
