@@ -1,0 +1,123 @@
+-- What one host byte does to the command reader, and what it makes.
+use Prim.Native.Nat.{ℕ, _+_, _*_, _-_, _%_, min}
+use mathlib.Core.Bool.{Bool, true, false, cond, _&&_, _||_}
+use mathlib.Core.List.{List, [], _∷_}
+use lib.Dec.{eqb, leb}
+use lib.ListN.{getD, set}
+use Rattle.command.specs.Names.{Verb, Write, Read, Other, Form, Empty, Digits, Ex, Stage, Text, Swallow, Held, Begun, Lettered, Typed, Fields, Discard, Reader, Out, Nothing, One, Two, Finished, Step}
+
+-- no field uses a place
+abbrev pub unused : List ℕ
+unused = 0 ∷ 0 ∷ 0 ∷ 0 ∷ 0 ∷ 0 ∷ 0 ∷ 0 ∷ 0 ∷ 0 ∷ 0 ∷ []
+
+-- the reader at a stage in which no field is read
+abbrev pub at : Stage → Out → Step
+at stage out = record { reader = record { stage = stage; values = unused }; out = out }
+
+-- in a field: its type, its form, which it is, and all fields so far
+abbrev pub inField : Verb → Form → ℕ → List ℕ → Step
+inField v f last values = record { reader = record { stage = Fields v f last; values = values }; out = Nothing }
+
+-- with nothing held: a `/` is held, any other byte is text
+abbrev pub afresh : ℕ → Step
+afresh b = cond (eqb b 47) (at Held Nothing) (at Text (One b))
+
+-- with a `/` held: `.` begins a command; otherwise the `/` is text, and the byte is treated afresh
+abbrev pub released : ℕ → Step
+released b = cond (eqb b 46) (at Begun Nothing) (cond (eqb b 47) (at Held (One 47)) (at Text (Two b)))
+
+abbrev pub ends : ℕ → Bool
+ends b = eqb b 13 || eqb b 10
+
+-- an LF directly after a CR that ended a command is swallowed
+abbrev pub over : ℕ → Stage
+over b = cond (eqb b 13) Swallow Text
+
+-- in a command: CR or LF ends it, and a `/` anywhere ends it silently and is held anew
+abbrev pub inside : ℕ → Out → Step → Step
+inside b finished other = cond (ends b) (at (over b) finished) (cond (eqb b 47) (at Held Nothing) other)
+
+abbrev pub isSmall : ℕ → Bool
+isSmall b = leb 97 b && leb b 122
+
+abbrev pub isCapital : ℕ → Bool
+isCapital b = leb 65 b && leb b 90
+
+-- the same letter in both cases
+abbrev pub isLetter : ℕ → ℕ → Bool
+isLetter letter b = eqb b letter || eqb b (letter + 32)
+
+-- T and W, or T and R
+abbrev pub verb : Bool → ℕ → Verb
+verb true b = cond (isLetter 87 b) Write (cond (isLetter 82 b) Read Other)
+verb false b = Other
+
+-- the first letter
+abbrev pub first : ℕ → Step
+first b = cond (isSmall b || isCapital b) (at (Lettered (isSmall b) (isLetter 84 b)) Nothing) (at Discard Nothing)
+
+-- the second, in the same case
+abbrev pub second : Bool → Bool → ℕ → Step
+second small t b = cond (cond small (isSmall b) (isCapital b)) (at (Typed (verb t b)) Nothing) (at Discard Nothing)
+
+abbrev pub isDigit : ℕ → Bool
+isDigit b = leb 48 b && leb b 57
+
+-- a comma opens a field, which is 0 while nothing stands in it; past the eleventh they are too many
+abbrev pub opened : Verb → ℕ → List ℕ → Step
+opened v last values = inField v Empty (min 11 (last + 1)) (set values (last + 1) 0)
+
+-- digits of any count are reduced to a byte, and none may follow X
+abbrev pub digit : Verb → Form → ℕ → List ℕ → ℕ → Step
+digit v Ex last values b = at Discard Nothing
+digit v Empty last values b = inField v Digits last (set values last ((getD values last 0 * 10 + (b - 48)) % 256))
+digit v Digits last values b = inField v Digits last (set values last ((getD values last 0 * 10 + (b - 48)) % 256))
+
+-- X alone is 255
+abbrev pub ex : Verb → Form → ℕ → List ℕ → Step
+ex v Empty last values = inField v Ex last (set values last 255)
+ex v Digits last values = at Discard Nothing
+ex v Ex last values = at Discard Nothing
+
+abbrev pub field : Verb → Form → ℕ → List ℕ → ℕ → Step
+field v f last values b = cond (eqb b 44) (opened v last values) (cond (isDigit b) (digit v f last values b) (cond (eqb b 88) (ex v f last values) (at Discard Nothing)))
+
+-- fewer than two fields are silently discarded
+abbrev pub finish : Verb → ℕ → Out
+finish v last = cond (eqb last 0) Nothing (Finished v (last + 1))
+
+abbrev pub readAt : Stage → List ℕ → ℕ → Step
+readAt Text values b = afresh b
+readAt Swallow values b = cond (eqb b 10) (at Text Nothing) (afresh b)
+readAt Held values b = released b
+readAt Begun values b = inside b Nothing (first b)
+readAt (Lettered small t) values b = inside b Nothing (second small t b)
+readAt (Typed v) values b = inside b Nothing (cond (eqb b 44) (inField v Empty 0 unused) (at Discard Nothing))
+readAt (Fields v f last) values b = inside b (finish v last) (field v f last values b)
+readAt Discard values b = inside b Nothing (at Discard Nothing)
+
+-- one byte
+abbrev pub read : Reader → ℕ → Step
+read r b = readAt (r .stage) (r .values) b
+
+-- nothing held
+abbrev pub idle : Reader
+idle = record { stage = Text; values = unused }
+
+-- no further than twelve fields, the twelfth standing for too many
+abbrev pub soundStage : Stage → Bool
+soundStage Text = true
+soundStage Swallow = true
+soundStage Held = true
+soundStage Begun = true
+soundStage (Lettered small t) = true
+soundStage (Typed v) = true
+soundStage (Fields v f last) = leb last 11
+soundStage Discard = true
+
+-- the text that a byte made
+abbrev pub textOf : Out → List ℕ
+textOf Nothing = []
+textOf (One b) = b ∷ []
+textOf (Two b) = 47 ∷ b ∷ []
+textOf (Finished v count) = []
