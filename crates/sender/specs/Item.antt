@@ -1,0 +1,73 @@
+-- Items: a character asked for, under option 72; host text in mode 1, TU codes in mode 4.
+use Prim.Native.Nat.{ℕ}
+use mathlib.Core.Bool.{Bool, true, false, cond, _&&_}
+use mathlib.Core.List.{List, [], _∷_, _++_}
+use Rattle.code.specs.Kinds.{kindOf}
+use Rattle.sender.specs.Names.{Case, Letters, Figures, Kind, Still, Space, Return, Shift, Char, Conversion, Nothing, Free, Cased, Settings, Record, Last, Wanted, Sender}
+use Rattle.sender.specs.Names.last
+use Rattle.sender.specs.Record.{unknown, notes}
+use Rattle.sender.specs.Code.{sendAs}
+use Rattle.sender.specs.Ending.{endingBefore}
+
+-- the ending that is due, then the code with its shifts
+abbrev pub character : Settings → Record → Wanted → List ℕ
+character o r w = endingBefore o r w ++ sendAs o (notes o r (endingBefore o r w) .case) (w .case) (w .code)
+
+abbrev pub lastOf : Kind → Last
+lastOf Still = last.Other
+lastOf Space = last.Other
+lastOf Return = last.Other
+lastOf (Shift to) = last.Shift to
+lastOf (Char bell) = last.Other
+
+-- a shift, and the item just before it was the same shift
+abbrev pub repeats : Last → Last → Bool
+repeats last.Other before = false
+repeats (last.Shift to) last.Other = false
+repeats (last.Shift Letters) (last.Shift Letters) = true
+repeats (last.Shift Letters) (last.Shift Figures) = false
+repeats (last.Shift Figures) (last.Shift Letters) = false
+repeats (last.Shift Figures) (last.Shift Figures) = true
+
+-- option 72 drops it
+abbrev pub item : Settings → Sender → Wanted → List ℕ
+item o s w = cond (repeats (lastOf (kindOf (w .code))) (s .last) && o .filter) [] (character o (s .held) w)
+
+-- the last item is kept whether 72 is on or off
+abbrev pub afterItem : Settings → Sender → Wanted → Sender
+afterItem o s w = record { held = notes o (s .held) (item o s w); last = lastOf (kindOf (w .code)) }
+
+abbrev pub items : Settings → Sender → List Wanted → List ℕ
+items o s [] = []
+items o s (w ∷ ws) = item o s w ++ items o (afterItem o s w) ws
+
+abbrev pub afterItems : Settings → Sender → List Wanted → Sender
+afterItems o s [] = s
+afterItems o s (w ∷ ws) = afterItems o (afterItem o s w) ws
+
+-- on connection
+abbrev pub fresh : Sender
+fresh = record { held = unknown; last = last.Other }
+
+-- What is asked for.
+
+abbrev pub wanted : Case → ℕ → Wanted
+wanted case c = record { case = case; code = c }
+
+-- host text with a code; a code that does not depend on case wants any
+abbrev pub wantedOf : Conversion → List Wanted
+wantedOf Nothing = []
+wantedOf (Free c) = wanted Letters c ∷ []
+wantedOf (Cased case c) = wanted case c ∷ []
+
+abbrev pub unshiftedBy : Bool → Case → Case
+unshiftedBy true case = Letters
+unshiftedBy false case = case
+
+-- mode 4's incoming reading case: set by 27 and 31, back to letters after space (70 on) or CR (71 on)
+abbrev pub incoming : Settings → Case → Kind → Case
+incoming o case Still = case
+incoming o case Space = unshiftedBy (o .onspace) case
+incoming o case Return = unshiftedBy (o .onreturn) case
+incoming o case (Shift to) = to
+incoming o case (Char bell) = case

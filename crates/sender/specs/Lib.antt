@@ -1,0 +1,7 @@
+pub mod Names
+pub mod Record
+pub mod Code
+pub mod Ending
+pub mod Item
+pub mod After
+pub mod Burst
