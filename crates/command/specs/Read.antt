@@ -37,11 +37,16 @@ over b = cond (eqb b 13) Swallow Text
 abbrev pub inside : ℕ → Out → Step → Step
 inside b finished other = cond (ends b) (at (over b) finished) (cond (eqb b 47) (at Held Nothing) other)
 
-abbrev pub isSmall : ℕ → Bool
-isSmall b = leb 97 b && leb b 122
+abbrev pub within : ℕ → ℕ → ℕ → Bool
+within low high b = leb low b && leb b high
 
+-- a to z
+abbrev pub isSmall : ℕ → Bool
+isSmall b = within 97 122 b
+
+-- A to Z
 abbrev pub isCapital : ℕ → Bool
-isCapital b = leb 65 b && leb b 90
+isCapital b = within 65 90 b
 
 -- the same letter in both cases
 abbrev pub isLetter : ℕ → ℕ → Bool
@@ -56,22 +61,34 @@ verb false b = Other
 abbrev pub first : ℕ → Step
 first b = cond (isSmall b || isCapital b) (at (Lettered (isSmall b) (isLetter 84 b)) Nothing) (at Discard Nothing)
 
+-- a letter in the case of type that the first had
+abbrev pub alike : Bool → ℕ → Bool
+alike small b = cond small (isSmall b) (isCapital b)
+
 -- the second, in the same case
 abbrev pub second : Bool → Bool → ℕ → Step
-second small t b = cond (cond small (isSmall b) (isCapital b)) (at (Typed (verb t b)) Nothing) (at Discard Nothing)
+second small t b = cond (alike small b) (at (Typed (verb t b)) Nothing) (at Discard Nothing)
 
+-- 0 to 9
 abbrev pub isDigit : ℕ → Bool
-isDigit b = leb 48 b && leb b 57
+isDigit b = within 48 57 b
 
 -- a comma opens a field, which is 0 while nothing stands in it; past the eleventh they are too many
 abbrev pub opened : Verb → ℕ → List ℕ → Step
 opened v last values = inField v Empty (min 11 (last + 1)) (set values (last + 1) 0)
 
--- digits of any count are reduced to a byte, and none may follow X
+-- a field with one digit more, reduced to a byte
+abbrev pub grown : ℕ → ℕ → ℕ
+grown n b = (n * 10 + (b - 48)) % 256
+
+abbrev pub added : Verb → ℕ → List ℕ → ℕ → Step
+added v last values b = inField v Digits last (set values last (grown (getD values last 0) b))
+
+-- digits of any count, and none after X
 abbrev pub digit : Verb → Form → ℕ → List ℕ → ℕ → Step
+digit v Empty last values b = added v last values b
+digit v Digits last values b = added v last values b
 digit v Ex last values b = at Discard Nothing
-digit v Empty last values b = inField v Digits last (set values last ((getD values last 0 * 10 + (b - 48)) % 256))
-digit v Digits last values b = inField v Digits last (set values last ((getD values last 0 * 10 + (b - 48)) % 256))
 
 -- X alone is 255
 abbrev pub ex : Verb → Form → ℕ → List ℕ → Step
@@ -84,15 +101,23 @@ field v f last values b = cond (eqb b 44) (opened v last values) (cond (isDigit 
 
 -- fewer than two fields are silently discarded
 abbrev pub finish : Verb → ℕ → Out
-finish v last = cond (eqb last 0) Nothing (Finished v (last + 1))
+finish v last = cond (eqb last 0) Nothing (Finished v (min 12 (last + 1)))
+
+-- a command's first comma
+abbrev pub typed : Verb → ℕ → Step
+typed v b = cond (eqb b 44) (inField v Empty 0 unused) (at Discard Nothing)
+
+-- an LF directly after the CR is swallowed
+abbrev pub swallowed : ℕ → Step
+swallowed b = cond (eqb b 10) (at Text Nothing) (afresh b)
 
 abbrev pub readAt : Stage → List ℕ → ℕ → Step
 readAt Text values b = afresh b
-readAt Swallow values b = cond (eqb b 10) (at Text Nothing) (afresh b)
+readAt Swallow values b = swallowed b
 readAt Held values b = released b
 readAt Begun values b = inside b Nothing (first b)
 readAt (Lettered small t) values b = inside b Nothing (second small t b)
-readAt (Typed v) values b = inside b Nothing (cond (eqb b 44) (inField v Empty 0 unused) (at Discard Nothing))
+readAt (Typed v) values b = inside b Nothing (typed v b)
 readAt (Fields v f last) values b = inside b (finish v last) (field v f last values b)
 readAt Discard values b = inside b Nothing (at Discard Nothing)
 
