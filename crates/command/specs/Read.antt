@@ -26,6 +26,7 @@ afresh b = cond (eqb b 47) (at Held Nothing) (at Text (One b))
 abbrev pub released : ℕ → Step
 released b = cond (eqb b 46) (at Begun Nothing) (cond (eqb b 47) (at Held (One 47)) (at Text (Two b)))
 
+-- CR or LF
 abbrev pub ends : ℕ → Bool
 ends b = eqb b 13 || eqb b 10
 
@@ -37,6 +38,7 @@ over b = cond (eqb b 13) Swallow Text
 abbrev pub inside : ℕ → Out → Step → Step
 inside b finished other = cond (ends b) (at (over b) finished) (cond (eqb b 47) (at Held Nothing) other)
 
+-- from low to high
 abbrev pub within : ℕ → ℕ → ℕ → Bool
 within low high b = leb low b && leb b high
 
@@ -77,10 +79,11 @@ isDigit b = within 48 57 b
 abbrev pub opened : Verb → ℕ → List ℕ → Step
 opened v last values = inField v Empty (min 11 (last + 1)) (set values (last + 1) 0)
 
--- a field with one digit more, reduced to a byte
+-- a number with one digit more, reduced to a byte
 abbrev pub grown : ℕ → ℕ → ℕ
 grown n b = (n * 10 + (b - 48)) % 256
 
+-- the field being read, with one digit more
 abbrev pub added : Verb → ℕ → List ℕ → ℕ → Step
 added v last values b = inField v Digits last (set values last (grown (getD values last 0) b))
 
@@ -96,21 +99,23 @@ ex v Empty last values = inField v Ex last (set values last 255)
 ex v Digits last values = at Discard Nothing
 ex v Ex last values = at Discard Nothing
 
+-- a comma, a digit, or X; any other byte has the command discarded
 abbrev pub field : Verb → Form → ℕ → List ℕ → ℕ → Step
 field v f last values b = cond (eqb b 44) (opened v last values) (cond (isDigit b) (digit v f last values b) (cond (eqb b 88) (ex v f last values) (at Discard Nothing)))
 
--- fewer than two fields are silently discarded
+-- fewer than two fields are silently discarded, and twelve stand for too many
 abbrev pub finish : Verb → ℕ → Out
 finish v last = cond (eqb last 0) Nothing (Finished v (min 12 (last + 1)))
 
--- a command's first comma
+-- after the two letters, a comma opens the first field
 abbrev pub typed : Verb → ℕ → Step
 typed v b = cond (eqb b 44) (inField v Empty 0 unused) (at Discard Nothing)
 
--- an LF directly after the CR is swallowed
+-- with nothing held, after a CR that ended a command
 abbrev pub swallowed : ℕ → Step
 swallowed b = cond (eqb b 10) (at Text Nothing) (afresh b)
 
+-- one byte at each stage
 abbrev pub readAt : Stage → List ℕ → ℕ → Step
 readAt Text values b = afresh b
 readAt Swallow values b = swallowed b

@@ -40,7 +40,7 @@ pub struct Reader {
 }
 
 // What a byte makes: nothing, one text byte, two (the `/` that was held and the byte), or a finished command, with its type and
-// how many fields it has, 12 for too many. The fields stand in the reader that the byte came to.
+// how many fields it has, 12 for too many. The fields stand in the reader as it was before the byte.
 pub enum Out {
     Nothing,
     One(u8),
@@ -122,11 +122,7 @@ fn ends(b: u8) -> bool
 fn over(b: u8) -> Stage
     ensures { λ r. ⌜ r ≡ over b ⌝ }
 {
-    if b == 13 {
-        Stage::Swallow
-    } else {
-        Stage::Text
-    }
+    if b == 13 { Stage::Swallow } else { Stage::Text }
 }
 
 // A byte in a command: what it makes if it ends the command, and where it leads if it does not.

@@ -1,0 +1,4 @@
+pub mod Both
+pub mod Cuts
+pub mod Digits
+pub mod Leads
