@@ -1,3 +1,4 @@
 pub mod Message
+pub mod Made
 pub mod Find
 pub mod Scan
