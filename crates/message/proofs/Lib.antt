@@ -7,3 +7,4 @@ pub mod Turns
 pub mod Reading
 pub mod Front
 pub mod Right
+pub mod HandedBack

@@ -2,12 +2,15 @@
 -- Assumes nothing.
 use Prim.Native.Nat.{ℕ, zero, suc, _+_, _-_, _≤_, _<_}
 use mathlib.Core.Path.{_≡_, refl, sym, ap, _∙_}
+use mathlib.Core.Bool.{Bool, true, false}
 use mathlib.Core.Logic.{_⊎_, inl, inr}
 use mathlib.Core.List.{List, [], _∷_}
 use native.Mathlib.Nat.{not-suc-le-zero, le-of-suc-le-suc, add-sub-cancel-left}
 use native.Mathlib.Numerals.{add-one}
 use native.Mathlib.Omega.{arith}
-use lib.ListN.{length, take, drop, drop-of-length-le, length-drop, length-append}
+use borrow.Author.Tests.{eqb-true, eqb-false}
+use lib.Dec.{eqb}
+use lib.ListN.{length-take, length, take, drop, drop-of-length-le, length-drop, length-append}
 use lib.Seq.{drop-nil, drop-cons}
 use Rattle.message.specs.declared.Numbers.{Numbers}
 use Rattle.message.specs.declared.Numbers.the-variants.{Nothing, Bytes}
@@ -20,7 +23,7 @@ use Rattle.message.proofs.Front.{front-of, at-front, nothing}
 use Rattle.message.proofs.Sizes.{framed-length}
 
 -- ---- one byte more before
-shift : (b : ℕ) (s : List ℕ) (j : ℕ) (ns : List ℕ) → Stands s j ns → Stands (b ∷ s) (suc j) ns
+pub shift : (b : ℕ) (s : List ℕ) (j : ℕ) (ns : List ℕ) → Stands s j ns → Stands (b ∷ s) (suc j) ns
 shift b s j ns t = record { bytes = t .bytes; counted = t .counted; rest = t .rest; spelt = t .spelt }
 
 pub unshift : (b : ℕ) (s : List ℕ) (j : ℕ) (ns : List ℕ) → Stands (b ∷ s) (suc j) ns → Stands s j ns
@@ -116,6 +119,25 @@ located-is s p e = rw e at (located-right s)
 -- where a message stands, the finder finds one
 pub finds-one : (s : List ℕ) (j : ℕ) (ns : List ℕ) → Stands s j ns → located s .len ≡ 0 → ⊥
 finds-one s j ns t e = located-right s .none e j ns t
+
+-- too few bytes for a message hold none
+pub short-none : (s : List ℕ) → length s < 8 → NoMessage s
+short-none s h j ns t = omega (arith, stands-room s j ns t)
+
+-- the stretch handed back is empty exactly if no message stands anywhere
+pub found-empty : (s : List ℕ) → found s ≡ [] → NoMessage s
+found-empty s e =
+    let r = located-right s in
+    let w = r .within in
+    let l = simp (length-take, length-drop) at (ap length e) in
+    r .none (omega arith)
+
+pub none-found : (s : List ℕ) → NoMessage s → found s ≡ []
+none-found s none = go (eqb (located s .len) 0) refl
+  where
+    go : (b : Bool) → eqb (located s .len) 0 ≡ b → found s ≡ []
+    go true e = rw (eqb-true (located s .len) 0 e)
+    go false e = let r = located-right s .some (eqb-false (located s .len) 0 e) in absurd (none (r .place) (r .ns) (r .stands))
 
 -- ---- the finder's loop
 pub front-room : (s : List ℕ) (k : ℕ) → messageAt s ≡ Bytes k → 8 + k ≤ length s
