@@ -8,3 +8,4 @@ pub mod Reading
 pub mod Front
 pub mod Right
 pub mod HandedBack
+pub mod Examples

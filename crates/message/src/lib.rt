@@ -176,6 +176,13 @@ fn is_digit(b: u8) -> bool
     b <= 57
 }
 
+// A byte as a larger number.
+fn wide(b: u8) -> u32
+    ensures { λ r. ⌜ (r ≡ b) × (r ≤ 255) ⌝ }
+{
+    b as u32
+}
+
 // One digit more of a number that is begun.
 fn more(p: Phase, v: u8, b: u8) -> Scan
     requires { ⌜ (48 ≤ b) × (b ≤ 57) ⌝ }
@@ -190,13 +197,6 @@ fn more(p: Phase, v: u8, b: u8) -> Scan
     } else {
         Scan::Bad
     }
-}
-
-// A byte as a larger number.
-fn wide(b: u8) -> u32
-    ensures { λ r. ⌜ (r ≡ b) × (r ≤ 255) ⌝ }
-{
-    b as u32
 }
 
 // One byte more in a number.

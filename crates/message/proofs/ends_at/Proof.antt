@@ -18,7 +18,9 @@ complete-requires : tie.Need-complete-requires
 complete-requires c κs = search needs
 
 returns : tie.Need-returns
-returns c = let a = c .before .before .before .before .before .before .args in ends-here (a .st) (a .k) (drop (a .at) (now (a .s))) (sym (c .before .before .before .starts-at .ensures) ∙ c .before .before .if1 .taken) (sym (c .before .complete .ensures) ∙ c .if2 .taken)
+returns c =
+    let started = c .before .before .before in let a = started .before .before .before .args in
+    ends-here (a .st) (a .k) (drop (a .at) (now (a .s))) (sym (started .starts-at .ensures) ∙ c .before .before .if1 .taken) (sym (c .before .complete .ensures) ∙ c .if2 .taken)
 
 returns-2 : tie.Need-returns-2
 returns-2 c = let a = c .before .before .before .before .before .before .args in not-complete (a .st) (a .k) (drop (a .at) (now (a .s))) (sym (c .before .complete .ensures) ∙ c .if2 .left)

@@ -20,7 +20,9 @@ same-length : tie.Need-same-length
 same-length c = search needs
 
 returns-2 : tie.Need-returns-2
-returns-2 c = let a = c .before .before .before .before .before .before .before .before .args in made-whole (now (a .ns)) (now (a .out)) _ _ _ (c .before .before .before .before .if1 .left) (c .before .before .before .before .before .size .ensures) (c .before .before .put-message .ensures)
+returns-2 c =
+    let put = c .before .before in let sized = put .before .before .before in let a = sized .before .before .before .args in
+    made-whole (now (a .ns)) (now (a .out)) _ _ _ (put .before .before .if1 .left) (sized .size .ensures) (put .put-message .ensures)
 
 pub make-spec : {M : Type 1} → statement M
 make-spec = tie.close (tie.spec size-requires returns put-message-requires same-length returns-2)

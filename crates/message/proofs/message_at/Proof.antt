@@ -29,7 +29,10 @@ numbers-at-requires : tie.Need-numbers-at-requires
 numbers-at-requires c κs = let a = c .before .before .before .before .before .before .before .args in mark-room (now (a .s)) (a .at) (sym (c .before .starts-at2 .ensures) ∙ c .if2 .taken)
 
 returns : tie.Need-returns
-returns c = let a = c .before .before .before .before .before .before .before .before .args in c .numbers-at .ensures ∙ begun (now (a .s)) (a .at) (sym (c .before .before .before .before .before .starts-at .ensures) ∙ c .before .before .before .before .if1 .taken) (sym (c .before .before .starts-at2 .ensures) ∙ c .before .if2 .taken)
+returns c =
+    let marked = c .before .before in let started = marked .before .before .before in let a = started .before .before .before .args in
+    c .numbers-at .ensures
+    ∙ begun (now (a .s)) (a .at) (sym (started .starts-at .ensures) ∙ marked .before .before .if1 .taken) (sym (marked .starts-at2 .ensures) ∙ c .before .if2 .taken)
 
 returns-2 : tie.Need-returns-2
 returns-2 c = let a = c .before .before .before .before .before .before .before .args in no-mark (now (a .s)) (a .at) (sym (c .before .starts-at2 .ensures) ∙ c .if2 .left)
