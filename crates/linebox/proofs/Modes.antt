@@ -1,0 +1,13 @@
+-- What a byte does, by the mode that the connection is in.
+-- Assumes nothing.
+use Prim.Native.Nat.{ℕ}
+use mathlib.Core.Path.{_≡_, ap}
+use mathlib.Core.List.{List}
+use Rattle.linebox.specs.Names.{Connection, State}
+use Rattle.linebox.specs.Step.{lined, lineStep, tued, tuStep}
+
+pub line-as : (s : State) (c : ℕ) (x : Connection) → s .connection ≡ x → lineStep s c ≡ lined x s c
+line-as s c x e = ap (λ (k : Connection). lined k s c) e
+
+pub tu-as : (s : State) (c : ℕ) (x : Connection) → s .connection ≡ x → tuStep s c ≡ tued x s c
+tu-as s c x e = ap (λ (k : Connection). tued k s c) e

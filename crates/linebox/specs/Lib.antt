@@ -1,0 +1,5 @@
+pub mod Names
+pub mod State
+pub mod Step
+pub mod Call
+pub mod Byte
