@@ -8,7 +8,7 @@ use lib.ListN.{length, getD, take, drop, replicate}
 use Rattle.settings.specs.Names.{Verb, Write, Read, Other, Settings, Connection, Mode1, Mode4, Mode10, Mode11, Id, Version, Ascii, Baudot, Spacing, Marking, Endings, Limit, OnSpace, OnReturn, Filter, Reports, Ending, Factory, Undefined, Takes, Count, Fault, Stored, Outcome}
 use Rattle.settings.specs.Names.takes
 use Rattle.settings.specs.Names.fault
-use Rattle.settings.specs.Table.{row, idOf, takenBy, isOn, factory}
+use Rattle.settings.specs.Table.{inRange, row, idOf, takenBy, isOn, factory}
 
 -- The first error that applies.
 
@@ -26,7 +26,7 @@ fitting n count fields = eqb (getD fields 1 0) n && (eqb count (n + 2) || eqb co
 
 -- a read has no value to be out of range
 abbrev pub ranged : Verb → Id → List ℕ → Bool
-ranged Write id fields = row id .range (drop 2 fields)
+ranged Write id fields = inRange (row id .range) (drop 2 fields)
 ranged Read id fields = true
 ranged Other id fields = true
 
@@ -131,23 +131,28 @@ reading t Ending = 90 ∷ 8 ∷ t .settings .string
 reading t Factory = 250 ∷ 0 ∷ []
 reading t Undefined = []
 
--- the error message's numbers
-abbrev pub refusal : ℕ → Fault → List ℕ
-refusal id f = 255 ∷ 2 ∷ id ∷ numberOf f ∷ []
-
 -- The whole command.
 
+-- what is stored, and an answer
 abbrev pub outcome : Stored → List ℕ → Outcome
 outcome t ns = record { stored = t; numbers = ns ++ replicate (10 - length ns) 0; count = length ns }
 
-abbrev pub answered : Fault → Settings → Connection → Verb → List ℕ → Outcome
-answered fault.Nothing s c v fields = outcome (obey s c v (idOf (getD fields 0 0)) (drop 2 fields)) (reading (obey s c v (idOf (getD fields 0 0)) (drop 2 fields)) (idOf (getD fields 0 0)))
-answered fault.Type s c v fields = outcome (kept s c) (refusal (getD fields 0 0) fault.Type)
-answered fault.Id s c v fields = outcome (kept s c) (refusal (getD fields 0 0) fault.Id)
-answered fault.Parameters s c v fields = outcome (kept s c) (refusal (getD fields 0 0) fault.Parameters)
-answered fault.Checksum s c v fields = outcome (kept s c) (refusal (getD fields 0 0) fault.Checksum)
-answered fault.Range s c v fields = outcome (kept s c) (refusal (getD fields 0 0) fault.Range)
+-- without error
+abbrev pub succeeded : Settings → Connection → Verb → List ℕ → Outcome
+succeeded s c v fields = outcome (obey s c v (idOf (getD fields 0 0)) (drop 2 fields)) (reading (obey s c v (idOf (getD fields 0 0)) (drop 2 fields)) (idOf (getD fields 0 0)))
 
--- a finished command of `count` fields: an error changes nothing
+-- an error changes nothing, and answers 255,2,id,n
+abbrev pub refused : Settings → Connection → ℕ → Fault → Outcome
+refused s c id f = outcome (kept s c) (255 ∷ 2 ∷ id ∷ numberOf f ∷ [])
+
+abbrev pub answered : Fault → Settings → Connection → Verb → List ℕ → Outcome
+answered fault.Nothing s c v fields = succeeded s c v fields
+answered fault.Type s c v fields = refused s c (getD fields 0 0) fault.Type
+answered fault.Id s c v fields = refused s c (getD fields 0 0) fault.Id
+answered fault.Parameters s c v fields = refused s c (getD fields 0 0) fault.Parameters
+answered fault.Checksum s c v fields = refused s c (getD fields 0 0) fault.Checksum
+answered fault.Range s c v fields = refused s c (getD fields 0 0) fault.Range
+
+-- a finished command of `count` fields
 unfoldable pub commanded : Settings → Connection → Verb → ℕ → List ℕ → Outcome
 commanded s c v count fields = answered (faultOf v count fields) s c v fields
