@@ -1,47 +1,36 @@
+-- `settings::is_link_sound` meets its contract: each mode has its range.
+-- Assumes nothing.
 use borrow.Author.Needs.{needs}
 use Rattle.settings.proofs.is_link_sound.Statement.{statement}
 use Rattle.settings.proofs.is_link_sound.Tie as tie
-use Rattle.settings.proofs.is_link_sound.Reads as reads
-use Rattle.settings.proofs.is_link_sound.Lts as lts
-use Rattle.settings.proofs.table.is_link.Reads as is-link-reads
 
--- src/lib.rt:129:27
 enum-known-c : tie.Need-enum-known-c
 enum-known-c c = search needs
 
--- src/lib.rt:129:43
 is-link-requires : tie.Need-is-link-requires
 is-link-requires c κs = search needs
 
--- src/lib.rt:130:27
 enum-known-c-2 : tie.Need-enum-known-c-2
 enum-known-c-2 c = search needs
 
--- src/lib.rt:130:43
 is-link-requires-2 : tie.Need-is-link-requires-2
 is-link-requires-2 c κs = search needs
 
--- src/lib.rt:131:31
 enum-told : tie.Need-enum-told
 enum-told c = search needs
 
--- src/lib.rt:132:31
 enum-told-2 : tie.Need-enum-told-2
 enum-told-2 c = search needs
 
--- src/lib.rt:125:1
 returns : tie.Need-returns
-returns c = ?
+returns c = simp (c .before .before .c .given .1, c .is-link .ensures)
 
--- src/lib.rt:125:1
 returns-2 : tie.Need-returns-2
-returns-2 c = ?
+returns-2 c = simp (c .before .before .c2 .given .1, c .is-link2 .ensures)
 
--- src/lib.rt:125:1
 returns-3 : tie.Need-returns-3
 returns-3 c = search needs
 
--- src/lib.rt:125:1
 returns-4 : tie.Need-returns-4
 returns-4 c = search needs
 
