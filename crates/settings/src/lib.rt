@@ -1,5 +1,6 @@
 // The settings and the connection: what is sound, and what a finished command reads, writes and answers.
 ghost use mathlib.Core.Path.{_≡_};
+ghost use mathlib.Core.Bool.{_&&_};
 ghost use Rattle.settings.specs.Table.{factory, soundSettings, soundConnection};
 ghost use Rattle.settings.specs.Command.{succeeded, refused, commanded};
 use answer::read_out;
@@ -114,7 +115,7 @@ pub fn factory() -> Settings
 }
 
 // Whether the settings are in the table's ranges.
-pub fn is_sound(s: Settings) -> bool
+fn settings_sound(s: Settings) -> bool
     ensures { λ r. ⌜ r ≡ soundSettings s ⌝ }
 {
     let string = s.string;
@@ -122,7 +123,7 @@ pub fn is_sound(s: Settings) -> bool
 }
 
 // Whether the connection is in the table's ranges.
-pub fn is_link_sound(c: Connection) -> bool
+fn connection_sound(c: Connection) -> bool
     ensures { λ r. ⌜ r ≡ soundConnection c ⌝ }
 {
     match c {
@@ -131,6 +132,13 @@ pub fn is_link_sound(c: Connection) -> bool
         Connection::Mode10 => true,
         Connection::Mode11 => true,
     }
+}
+
+// Whether settings and connection are sound.
+pub fn is_sound(s: Settings, c: Connection) -> bool
+    ensures { λ r. ⌜ r ≡ (soundSettings s && soundConnection c) ⌝ }
+{
+    settings_sound(s) & connection_sound(c)
 }
 
 // An error: nothing changes, and its number is answered.

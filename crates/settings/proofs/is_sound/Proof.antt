@@ -1,17 +1,17 @@
--- `settings::is_sound` meets its contract: its two tests are those of `soundSettings`.
+-- `settings::is_sound` meets its contract: its two parts are those of the promise.
 -- Assumes nothing.
 use borrow.Author.Needs.{needs}
 use Rattle.settings.proofs.is_sound.Statement.{statement}
 use Rattle.settings.proofs.is_sound.Tie as tie
 
-is-between-requires : tie.Need-is-between-requires
-is-between-requires c κs = search needs
+settings-sound-requires : tie.Need-settings-sound-requires
+settings-sound-requires c κs = search needs
 
-sound-string-requires : tie.Need-sound-string-requires
-sound-string-requires c κs = search needs
+connection-sound-requires : tie.Need-connection-sound-requires
+connection-sound-requires c κs = search needs
 
 returns : tie.Need-returns
-returns c = simp (c .before .is-between .ensures, c .sound-string .ensures)
+returns c = simp (c .before .settings-sound .ensures, c .connection-sound .ensures)
 
 pub is-sound-spec : {M : Type 1} → statement M
-is-sound-spec = tie.close (tie.spec is-between-requires sound-string-requires returns)
+is-sound-spec = tie.close (tie.spec settings-sound-requires connection-sound-requires returns)

@@ -1,8 +1,8 @@
--- `settings::is_link_sound` meets its contract: each mode has its range.
+-- `settings::connection_sound` meets its contract: each mode has its range.
 -- Assumes nothing.
 use borrow.Author.Needs.{needs}
-use Rattle.settings.proofs.is_link_sound.Statement.{statement}
-use Rattle.settings.proofs.is_link_sound.Tie as tie
+use Rattle.settings.proofs.connection_sound.Statement.{statement}
+use Rattle.settings.proofs.connection_sound.Tie as tie
 
 enum-known-c : tie.Need-enum-known-c
 enum-known-c c = search needs
@@ -34,8 +34,8 @@ returns-3 c = search needs
 returns-4 : tie.Need-returns-4
 returns-4 c = search needs
 
-pub is-link-sound-spec : {M : Type 1} → statement M
-is-link-sound-spec =
+pub connection-sound-spec : {M : Type 1} → statement M
+connection-sound-spec =
     tie.close
     (tie.spec
     enum-known-c
