@@ -12,7 +12,7 @@ use Rattle.settings.specs.Names.{Verb, Write, Read, Other, Settings, Con
 use Rattle.settings.specs.Names.takes
 use Rattle.settings.specs.Names.fault
 use Rattle.settings.specs.Table.{row, ids, seek, idOf, takenBy}
-use Rattle.settings.specs.Command.{checked, fitting, ranged, faultIn, faultOf, numberOf, kept, refused, answered, commanded}
+use Rattle.settings.specs.Command.{checked, fitting, ranged, faultIn, faultOf, numberOf, kept, succeeded, refused, answered, commanded}
 
 pub both : (a b : Bool) → (a && b) ≡ true → (a ≡ true) × (b ≡ true)
 both true b e = (refl, e)
@@ -40,6 +40,11 @@ pub accepted : (v : Verb) (count : ℕ) (fields : List ℕ) → faultOf v count 
 accepted Write count fields e = accepted-in (takenBy Write (idOf (getD fields 0 0))) Write (idOf (getD fields 0 0)) count fields e
 accepted Read count fields e = accepted-in (takenBy Read (idOf (getD fields 0 0))) Read (idOf (getD fields 0 0)) count fields e
 accepted Other count fields e = absurd (omega (arith, ap numberOf e))
+
+-- a command without error succeeds
+pub success : (s : Settings) (c : Connection) (v : Verb) (count : ℕ) (fields : List ℕ) → faultOf v count fields ≡ fault.Nothing → commanded s c v count fields ≡ succeeded s c v fields
+unfolding commanded
+success s c v count fields h = rw h
 
 -- an error changes nothing, and answers its number
 pub refusal : (s : Settings) (c : Connection) (v : Verb) (count : ℕ) (fields : List ℕ) → (faultOf v count fields ≡ fault.Nothing → ⊥) → commanded s c v count fields ≡ refused s c (getD fields 0 0) (faultOf v count fields)

@@ -15,16 +15,11 @@ use Rattle.settings.specs.Names.fault
 use Rattle.settings.specs.Table.{between, inRange, row, idOf, takenBy, isOn, factory, soundString, soundSettings, soundConnection}
 use Rattle.settings.specs.Command.{faultOf, kept, store, obey, bit, reading, outcome, succeeded, answered, commanded}
 use Rattle.settings.specs.Laws.{answerOf, readBy, Sound}
-use Rattle.settings.proofs.Accept.{both, Accepted, accepted, found}
+use Rattle.settings.proofs.Accept.{both, Accepted, accepted, success, found}
 
 -- the answer of an outcome is the list that it was made of
 pub answer-outcome : (t : Stored) (ns : List ℕ) → answerOf (outcome t ns) ≡ ns
 answer-outcome t ns = take-append-seam ns (replicate (10 - length ns) 0)
-
--- a command without error succeeds
-pub success : (s : Settings) (c : Connection) (v : Verb) (count : ℕ) (fields : List ℕ) → faultOf v count fields ≡ fault.Nothing → commanded s c v count fields ≡ succeeded s c v fields
-unfolding commanded
-success s c v count fields h = rw h
 
 -- Values as stored are those given.
 

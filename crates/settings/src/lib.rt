@@ -162,12 +162,8 @@ pub fn run(s: Settings, c: Connection, v: Verb, count: u8, fields: [u8; 11]) -> 
 {
     let id = fields[0];
     let f = fault_of(v, count, fields);
-    match f {
-        Fault::Nothing => succeed(s, c, v, fields),
-        Fault::Type => refuse(s, c, id, f),
-        Fault::Id => refuse(s, c, id, f),
-        Fault::Parameters => refuse(s, c, id, f),
-        Fault::Checksum => refuse(s, c, id, f),
-        Fault::Range => refuse(s, c, id, f),
+    if let Fault::Nothing = f {
+        return succeed(s, c, v, fields);
     }
+    refuse(s, c, id, f)
 }
