@@ -86,13 +86,16 @@ fn fault_in(taken: Takes, v: Verb, id: Id, count: u8, fields: [u8; 11]) -> Fault
     match taken {
         Takes::Nothing => Fault::Id,
         Takes::Count(n) => {
-            if !is_fitting(n, count, fields) {
+            let fits = is_fitting(n, count, fields);
+            let checks = is_checked(n, count, fields);
+            let ranges = is_ranged(v, id, fields);
+            if !fits {
                 return Fault::Parameters;
             }
-            if !is_checked(n, count, fields) {
+            if !checks {
                 return Fault::Checksum;
             }
-            if !is_ranged(v, id, fields) {
+            if !ranges {
                 return Fault::Range;
             }
             Fault::Nothing

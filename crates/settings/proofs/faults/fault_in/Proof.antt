@@ -15,26 +15,34 @@ enum-known-taken c = search needs
 is-fitting-requires : tie.Need-is-fitting-requires
 is-fitting-requires c κs = search needs
 
-returns : tie.Need-returns
-returns c = simp (c .before .before .before .taken .given .1, sym (c .before .is-fitting .ensures) ∙ not-true _ (c .if1 .taken))
-
 is-checked-requires : tie.Need-is-checked-requires
 is-checked-requires c κs = search needs
-
-returns-2 : tie.Need-returns-2
-returns-2 c = simp (c .before .before .before .before .before .taken .given .1, sym (c .before .before .before .is-fitting .ensures) ∙ not-false _ (c .before .before .if1 .left), sym (c .before .is-checked .ensures) ∙ not-true _ (c .if2 .taken))
 
 is-ranged-requires : tie.Need-is-ranged-requires
 is-ranged-requires c κs = search needs
 
+returns : tie.Need-returns
+returns c =
+    let d = c .before in
+    simp (d .before .before .before .before .taken .given .1, sym (d .before .before .is-fitting .ensures) ∙ not-true _ (c .if1 .taken))
+
+returns-2 : tie.Need-returns-2
+returns-2 c =
+    let d = c .before .before in
+    simp (d .before .before .before .before .taken .given .1, sym (d .before .before .is-fitting .ensures) ∙ not-false _ (c .before .if1 .left), sym (d .before .is-checked .ensures) ∙ not-true _ (c .if2 .taken))
+
 returns-3 : tie.Need-returns-3
-returns-3 c = simp (c .before .before .before .before .before .before .before .taken .given .1, sym (c .before .before .before .before .before .is-fitting .ensures) ∙ not-false _ (c .before .before .before .before .if1 .left), sym (c .before .before .before .is-checked .ensures) ∙ not-false _ (c .before .before .if2 .left), sym (c .before .is-ranged .ensures) ∙ not-true _ (c .if3 .taken))
+returns-3 c =
+    let d = c .before .before .before in
+    simp (d .before .before .before .before .taken .given .1, sym (d .before .before .is-fitting .ensures) ∙ not-false _ (c .before .before .if1 .left), sym (d .before .is-checked .ensures) ∙ not-false _ (c .before .if2 .left), sym (d .is-ranged .ensures) ∙ not-true _ (c .if3 .taken))
 
 returns-4 : tie.Need-returns-4
 returns-4 c = search needs
 
 returns-5 : tie.Need-returns-5
-returns-5 c = simp (c .before .before .before .before .before .before .before .taken .given .1, sym (c .before .before .before .before .before .is-fitting .ensures) ∙ not-false _ (c .before .before .before .before .if1 .left), sym (c .before .before .before .is-checked .ensures) ∙ not-false _ (c .before .before .if2 .left), sym (c .before .is-ranged .ensures) ∙ not-false _ (c .if3 .left))
+returns-5 c =
+    let d = c .before .before .before in
+    simp (d .before .before .before .before .taken .given .1, sym (d .before .before .is-fitting .ensures) ∙ not-false _ (c .before .before .if1 .left), sym (d .before .is-checked .ensures) ∙ not-false _ (c .before .if2 .left), sym (d .is-ranged .ensures) ∙ not-false _ (c .if3 .left))
 
 pub fault-in-spec : {M : Type 1} → statement M
 fault-in-spec =
@@ -43,10 +51,10 @@ fault-in-spec =
     enum-told
     enum-known-taken
     is-fitting-requires
-    returns
     is-checked-requires
-    returns-2
     is-ranged-requires
+    returns
+    returns-2
     returns-3
     returns-4
     returns-5)
