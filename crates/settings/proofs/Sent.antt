@@ -10,7 +10,7 @@ use borrow.Author.Tests.{leb-true, ltb-false, eqb-true}
 use lib.Dec.{eqb, leb, ltb, lit≤}
 use lib.ListN.{length, getD, drop, length-append}
 use Rattle.message.specs.Message.{crlf, digit, digits, numbers, framed}
-use Rattle.message.specs.Find.{Bytes, Counted}
+use Rattle.message.specs.Find.{AllBytes, Counted}
 use Rattle.settings.specs.Names.{Verb, Settings, Connection, Mode1, Mode4, Mode10, Mode11, Id, Version, Ascii, Baudot, Spacing, Marking, Endings, Limit, OnSpace, OnReturn, Filter, Reports, Ending, Factory, Undefined, Fault, Stored}
 use Rattle.settings.specs.Names.fault
 use Rattle.settings.specs.Table.{between, isSpeed, allCodes, early, padded, opens, soundString, inRange, idOf, soundConnection}
@@ -89,7 +89,7 @@ either n k b h rest = go (eqb n k) refl
 speed : (n : ℕ) → isSpeed n ≡ true → n ≤ 255
 speed n = either n 60 _ (lit≤ tt) (either n 66 _ (lit≤ tt) (either n 75 _ (lit≤ tt) (λ e. omega (arith, eqb-true n 100 e))))
 
-code-bytes : (cs : List ℕ) → allCodes cs ≡ true → Bytes cs
+code-bytes : (cs : List ℕ) → allCodes cs ≡ true → AllBytes cs
 code-bytes [] h = tt
 code-bytes (c ∷ cs) h =
     let b = both (leb c 31) (allCodes cs) h in
@@ -110,7 +110,7 @@ fault-byte fault.Range = lit≤ tt
 -- The answers.
 
 -- up to seven numbers are never too long
-few : (ns : List ℕ) → Bytes ns → Counted ns → length ns ≤ 7 → Sendable ns
+few : (ns : List ℕ) → AllBytes ns → Counted ns → length ns ≤ 7 → Sendable ns
 few ns b c l = record { bytes = b; counted = c; few = omega arith; short = omega (arith, frame ns, any ns) }
 
 link : (id last port speed′ : ℕ) → id ≤ 255 → last ≤ 255 → (between 1 last port && isSpeed speed′) ≡ true → Sendable (id ∷ 2 ∷ port ∷ speed′ ∷ [])

@@ -5,7 +5,7 @@ use mathlib.Core.Bool.{true}
 use mathlib.Core.List.{List}
 use lib.ListN.{length, take}
 use Rattle.message.specs.Message.{framed}
-use Rattle.message.specs.Find.{Bytes, Counted}
+use Rattle.message.specs.Find.{AllBytes, Counted}
 use Rattle.settings.specs.Names.{Settings, Connection, Id, Version, Ascii, Baudot, Spacing, Marking, Endings, Limit, OnSpace, OnReturn, Filter, Reports, Ending, Factory, Undefined, Stored, Outcome}
 use Rattle.settings.specs.Table.{soundSettings, soundConnection}
 
@@ -38,7 +38,7 @@ pub record Sound (s : Settings) (c : Connection) : Type 0 where
 
 -- the numbers of a message: bytes, the second counting the rest, at most ten of them, and at most 36 bytes as a message
 pub record Sendable (ns : List ℕ) : Type 0 where
-  pub bytes : Bytes ns
+  pub bytes : AllBytes ns
   pub counted : Counted ns
   pub few : length ns ≤ 10
   pub short : length (framed ns) ≤ 36
