@@ -15,7 +15,7 @@ use Rattle.settings.specs.Names.{Verb, Settings, Connection, Mode1, Mode
 use Rattle.settings.specs.Names.fault
 use Rattle.settings.specs.Table.{between, isSpeed, allCodes, early, padded, opens, soundString, inRange, idOf, soundConnection}
 use Rattle.settings.specs.Command.{faultOf, numberOf, kept, bit, obey, connectionNumbers, reading, answered, commanded}
-use Rattle.settings.specs.Laws.{answerOf, Sound, Sendable}
+use Rattle.settings.specs.Laws.{answerOf, Sound, Sendable, Short}
 use Rattle.settings.proofs.Accept.{both, Accepted, accepted}
 use Rattle.settings.proofs.Written.{answer-outcome, defined, parts, obey-sound}
 
@@ -150,21 +150,34 @@ read t Ending h d = string (t .settings .string) (parts (t .settings) (t .connec
 read t Factory h d = few (250 ∷ 0 ∷ []) (lit≤ tt, (lit≤ tt, tt)) refl (lit≤ tt)
 read t Undefined h d = absurd (d refl)
 
--- from sound settings any command answers a message, of at most 36 bytes
-pub answers : (s : Settings) (c : Connection) → Sound s c → (v : Verb) (count : ℕ) (fields : List ℕ) → length fields ≡ 11 → getD fields 0 0 ≤ 255 → Sendable (answerOf (commanded s c v count fields))
-unfolding commanded
-answers s c h v count fields l byte = go (faultOf v count fields) refl
-  where
-    refused : (f : Fault) → Sendable (255 ∷ 2 ∷ getD fields 0 0 ∷ numberOf f ∷ [])
-    refused f = few (255 ∷ 2 ∷ getD fields 0 0 ∷ numberOf f ∷ []) (lit≤ tt, (lit≤ tt, (byte, (fault-byte f, tt)))) refl (lit≤ tt)
+-- a command answers a refusal of its id, or a message
+module _ (s : Settings) (c : Connection) (h : Sound s c) (v : Verb) (count : ℕ) (fields : List ℕ) (l : length fields ≡ 11) where
+  abbrev refused : Fault → List ℕ
+  refused f = 255 ∷ 2 ∷ getD fields 0 0 ∷ numberOf f ∷ []
 
-    go : (f : Fault) → faultOf v count fields ≡ f → Sendable (answerOf (answered f s c v fields))
-    go fault.Nothing e =
-        let i = idOf (getD fields 0 0) in
-        let a = accepted v count fields e in
-        rw answer-outcome (read (obey s c v i (drop 2 fields)) i (obey-sound s c h v _ i fields l a) (defined v i (a .n) (a .takes)))
-    go fault.Type e = refused fault.Type
-    go fault.Id e = refused fault.Id
-    go fault.Parameters e = refused fault.Parameters
-    go fault.Checksum e = refused fault.Checksum
-    go fault.Range e = refused fault.Range
+  answers-by : (P : List ℕ → Type 0) → ((f : Fault) → P (refused f)) → ((ns : List ℕ) → Sendable ns → P ns) → P (answerOf (commanded s c v count fields))
+  unfolding commanded
+  answers-by P refuses sends = go (faultOf v count fields) refl
+    where
+      go : (f : Fault) → faultOf v count fields ≡ f → P (answerOf (answered f s c v fields))
+      go fault.Nothing e =
+          let i = idOf (getD fields 0 0) in
+          let a = accepted v count fields e in
+          let t = obey s c v i (drop 2 fields) in
+          rw answer-outcome (sends (reading t i) (read t i (obey-sound s c h v _ i fields l a) (defined v i (a .n) (a .takes))))
+      go fault.Type e = refuses fault.Type
+      go fault.Id e = refuses fault.Id
+      go fault.Parameters e = refuses fault.Parameters
+      go fault.Checksum e = refuses fault.Checksum
+      go fault.Range e = refuses fault.Range
+
+  -- from sound settings any command answers a message, of at most 36 bytes
+  pub answers : getD fields 0 0 ≤ 255 → Sendable (answerOf (commanded s c v count fields))
+  answers byte =
+      answers-by Sendable (λ f. few (refused f) (lit≤ tt, (lit≤ tt, (byte, (fault-byte f, tt)))) refl (lit≤ tt)) (λ ns sent. sent)
+
+  -- whatever stands in its first field, the answer has 2 to 10 numbers and is short
+  pub answers-short : Short (answerOf (commanded s c v count fields))
+  answers-short =
+      answers-by Short (λ f. record { few = lit≤ tt; short = omega (arith, frame (refused f), any (refused f)) })
+      (λ ns sent. record { few = sent .few; short = sent .short })

@@ -42,3 +42,8 @@ pub record Sendable (ns : List ℕ) : Type 0 where
   pub counted : Counted ns
   pub few : length ns ≤ 10
   pub short : length (framed ns) ≤ 36
+
+-- at most ten numbers, and at most 36 bytes as a message
+pub record Short (ns : List ℕ) : Type 0 where
+  pub few : length ns ≤ 10
+  pub short : length (framed ns) ≤ 36
