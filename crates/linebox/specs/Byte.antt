@@ -7,7 +7,8 @@ use lib.Dec.{leb}
 use lib.ListN.{length}
 use Rattle.laws.specs.Written.{fronted}
 use Rattle.sender.specs.declared.Burst.{Burst}
-use Rattle.sender.specs.Burst.{codesOf}
+use Rattle.sender.specs.declared.Sent.{Sent}
+use Rattle.sender.specs.Burst.{empty, codesOf}
 use Rattle.linebox.specs.Names.{State, Stream, Took, Taken}
 use Rattle.linebox.specs.Step.{Step, step}
 use Rattle.linebox.specs.Call.{firstOf, secondOf, fits}
@@ -45,3 +46,7 @@ inFirst r = record { fits = r .fits; state = r .state; first = r .count; second 
 
 abbrev pub inSecond : Took → Taken
 inSecond r = record { fits = r .fits; state = r .state; first = 0; second = r .count }
+
+-- the state's sender, and no codes yet
+abbrev pub starting : State → Sent
+starting s = record { sender = s .sender; burst = empty }

@@ -41,6 +41,11 @@ text (Mode4 port speed) bs = []
 text Mode10 bs = []
 text Mode11 bs = []
 
+-- a text byte, and before it the `/` where that was held
+abbrev pub released : Bool → ℕ → List ℕ
+released true b = 47 ∷ b ∷ []
+released false b = b ∷ []
+
 -- commands work in every mode; the answer goes to the host
 abbrev pub obeys : State → Outcome → Step
 obeys s o = record { state = withStored s (o .stored); line = []; host = framed (take (o .count) (o .numbers)); tu = [] }
@@ -48,8 +53,8 @@ obeys s o = record { state = withStored s (o .stored); line = []; host = framed 
 -- what the command reader made of the byte; a finished command's fields stand in the reader before it
 abbrev pub hosted : State → List ℕ → Out → Step
 hosted s fields Nothing = quiet s
-hosted s fields (One b) = sends s (text (s .connection) (b ∷ []))
-hosted s fields (Two b) = sends s (text (s .connection) (47 ∷ b ∷ []))
+hosted s fields (One b) = sends s (text (s .connection) (released false b))
+hosted s fields (Two b) = sends s (text (s .connection) (released true b))
 hosted s fields (Finished v count) = obeys s (commanded (s .settings) (s .connection) v count fields)
 
 abbrev pub hostStep : State → ℕ → Step
@@ -88,10 +93,14 @@ lineStep s c = lined (s .connection) s c
 
 -- TU codes.
 
--- they go to the printer in mode 4, the wanted case being the incoming reading case
+-- an item, the wanted case being the incoming reading case
+abbrev pub carried : State → ℕ → Step
+carried s c = sends (withIncoming s (incoming (s .settings) (s .incoming) (kindOf c))) (wanted (s .incoming) c ∷ [])
+
+-- they go to the printer in mode 4
 abbrev pub tued : Connection → State → ℕ → Step
 tued (Mode1 port speed) s c = quiet s
-tued (Mode4 port speed) s c = sends (withIncoming s (incoming (s .settings) (s .incoming) (kindOf c))) (wanted (s .incoming) c ∷ [])
+tued (Mode4 port speed) s c = carried s c
 tued Mode10 s c = quiet s
 tued Mode11 s c = quiet s
 
