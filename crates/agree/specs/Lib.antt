@@ -1,0 +1,4 @@
+pub mod Names
+pub mod Agrees
+pub mod Margin
+pub mod Sure
