@@ -5,3 +5,6 @@ pub mod Prints
 pub mod Weights
 pub mod Home
 pub mod Told
+pub mod Margin
+pub mod Length
+pub mod Traces

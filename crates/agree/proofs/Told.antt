@@ -29,34 +29,34 @@ abbrev pub Told : Settings → (Record → Type 0) → (Kind → Bool) → Recor
 Told o K f r cs = (b : Bool) → (b ≡ true → K r) → (b || holds f cs) ≡ true → K (notes o r cs)
 
 module _ (o : Settings) (K : Record → Type 0) (f : Kind → Bool) (code : (r : Record) (want : Case) (c : ℕ) → Told o K f r (sendAs o (r .case) want c)) where
-  none : (r : Record) → Told o K f r []
-  none r b before h = before (sym (or-false b) ∙ h)
+  told-none : (r : Record) → Told o K f r []
+  told-none r b before h = before (sym (or-false b) ∙ h)
 
-  append : (r : Record) (xs ys : List ℕ) → Told o K f r xs → Told o K f (notes o r xs) ys → Told o K f r (xs ++ ys)
-  append r xs ys t u b before h = rw (notes-append o r xs ys) (u (b || holds f xs) (t b before) (or-assoc b (holds f xs) (holds f ys) ∙ rw (holds-append f xs ys) at h))
+  told-append : (r : Record) (xs ys : List ℕ) → Told o K f r xs → Told o K f (notes o r xs) ys → Told o K f r (xs ++ ys)
+  told-append r xs ys t u b before h = rw (notes-append o r xs ys) (u (b || holds f xs) (t b before) (or-assoc b (holds f xs) (holds f ys) ∙ rw (holds-append f xs ys) at h))
 
-  string : (r : Record) (cs : List ℕ) → Told o K f r (endingOf o r cs)
-  string r [] = none r
-  string r (c ∷ cs) =
+  told-string : (r : Record) (cs : List ℕ) → Told o K f r (endingOf o r cs)
+  told-string r [] = told-none r
+  told-string r (c ∷ cs) =
       let s = endingCode o (r .case) c in
-      append r s (endingOf o (notes o r s) cs) (code r (onRecord (r .case)) c) (string (notes o r s) cs)
+      told-append r s (endingOf o (notes o r s) cs) (code r (onRecord (r .case)) c) (told-string (notes o r s) cs)
 
-  pub before : (r : Record) (w : Wanted) → Told o K f r (endingBefore o r w)
-  before r w = go (moves (w .case) (kindOf (w .code)) && due o (r .column))
+  pub told-before : (r : Record) (w : Wanted) → Told o K f r (endingBefore o r w)
+  told-before r w = go (moves (w .case) (kindOf (w .code)) && due o (r .column))
     where
       go : (b : Bool) → Told o K f r (ending o r b)
-      go true = string r (untilZero (o .string))
-      go false = none r
+      go true = told-string r (untilZero (o .string))
+      go false = told-none r
 
-  one : (s : Sender) (w : Wanted) → Told o K f (s .held) (item o s w)
-  one s w =
+  told-item : (s : Sender) (w : Wanted) → Told o K f (s .held) (item o s w)
+  told-item s w =
       let e = endingBefore o (s .held) w in
-      item-cases o s w (Told o K f (s .held)) (none (s .held))
-      (append (s .held) e (sendAs o (notes o (s .held) e .case) (w .case) (w .code)) (before (s .held) w) (code (notes o (s .held) e) (w .case) (w .code)))
+      item-cases o s w (Told o K f (s .held)) (told-none (s .held))
+      (told-append (s .held) e (sendAs o (notes o (s .held) e .case) (w .case) (w .code)) (told-before (s .held) w) (code (notes o (s .held) e) (w .case) (w .code)))
 
-  pub many : (s : Sender) (ws : List Wanted) → Told o K f (s .held) (items o s ws)
-  many s [] = none (s .held)
-  many s (w ∷ ws) = append (s .held) (item o s w) (items o (afterItem o s w) ws) (one s w) (many (afterItem o s w) ws)
+  pub told-items : (s : Sender) (ws : List Wanted) → Told o K f (s .held) (items o s ws)
+  told-items s [] = told-none (s .held)
+  told-items s (w ∷ ws) = told-append (s .held) (item o s w) (items o (afterItem o s w) ws) (told-item s w) (told-items (afterItem o s w) ws)
 
 -- The column: a return tells it.
 
@@ -98,11 +98,11 @@ column-code o r want c b before h = rw (record-after o r want c) (go (kindOf c) 
 
 -- an ending keeps it
 pub ending-keeps : (o : Settings) (r : Record) (w : Wanted) → ColumnSure (r .column) → ColumnSure (notes o r (endingBefore o r w) .column)
-ending-keeps o r w f = before o (λ q. ColumnSure (q .column)) isReturn (column-code o) r w true (λ h. f) refl
+ending-keeps o r w f = told-before o (λ q. ColumnSure (q .column)) isReturn (column-code o) r w true (λ h. f) refl
 
 -- on record before, or a return among the codes of the items: on record after them
 pub column-told : (o : Settings) (s : Sender) (ws : List Wanted) (b : Bool) → (b ≡ true → ColumnSure (s .held .column)) → (b || holds isReturn (items o s ws)) ≡ true → ColumnSure (afterItems o s ws .held .column)
-column-told o s ws b before h = rw (items-noted o s ws) (many o (λ q. ColumnSure (q .column)) isReturn (column-code o) s ws b before h)
+column-told o s ws b before h = rw (items-noted o s ws) (told-items o (λ q. ColumnSure (q .column)) isReturn (column-code o) s ws b before h)
 
 -- The case: a shift or a code that depends on case tells it.
 
@@ -124,4 +124,4 @@ case-code o r want c b before h = rw (record-after o r want c) (go (kindOf c) re
     go (Char bell) e h = tt
 
 pub case-told : (o : Settings) (s : Sender) (ws : List Wanted) (b : Bool) → (b ≡ true → CaseSure (s .held .case)) → (b || holds isCased (items o s ws)) ≡ true → CaseSure (afterItems o s ws .held .case)
-case-told o s ws b before h = rw (items-noted o s ws) (many o (λ q. CaseSure (q .case)) isCased (case-code o) s ws b before h)
+case-told o s ws b before h = rw (items-noted o s ws) (told-items o (λ q. CaseSure (q .case)) isCased (case-code o) s ws b before h)

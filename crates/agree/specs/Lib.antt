@@ -2,3 +2,4 @@ pub mod Names
 pub mod Agrees
 pub mod Margin
 pub mod Sure
+pub mod Asked
