@@ -4,10 +4,13 @@ use Prim.Native.Nat.{ℕ}
 use mathlib.Core.Path.{_≡_, ap}
 use mathlib.Core.List.{List}
 use Rattle.linebox.specs.Names.{Connection, State}
-use Rattle.linebox.specs.Step.{lined, lineStep, tued, tuStep}
+use Rattle.linebox.specs.Step.{text, lined, lineStep, tued, tuStep}
 
 pub line-as : (s : State) (c : ℕ) (x : Connection) → s .connection ≡ x → lineStep s c ≡ lined x s c
 line-as s c x e = ap (λ (k : Connection). lined k s c) e
 
 pub tu-as : (s : State) (c : ℕ) (x : Connection) → s .connection ≡ x → tuStep s c ≡ tued x s c
 tu-as s c x e = ap (λ (k : Connection). tued k s c) e
+
+pub text-as : (s : State) (bs : List ℕ) (x : Connection) → s .connection ≡ x → text (s .connection) bs ≡ text x bs
+text-as s bs x e = ap (λ (k : Connection). text k bs) e

@@ -1,34 +1,38 @@
+-- `linebox::sends::send_text` meets its contract: the items of one byte or of two, one after the other.
+-- Assumes nothing.
+use mathlib.Core.List.{append-nil}
+use Rattle.code.specs.Convert.{conversion}
+use Rattle.sender.specs.Item.{wantedOf}
+use Rattle.sender.proofs.Sends.{sent-append}
+use Rattle.linebox.specs.Byte.{starting}
 use borrow.Author.Needs.{needs}
 use Rattle.linebox.proofs.sends.send_text.Statement.{statement}
 use Rattle.linebox.proofs.sends.send_text.Tie as tie
-use Rattle.linebox.proofs.sends.send_text.Reads as reads
-use Rattle.linebox.proofs.sends.send_text.Lts as lts
-use Rattle.linebox.proofs.sends.start.Reads as start-reads
-use Rattle.sender.proofs.items.text.Reads as text-reads
 
--- src/sends.rt:73:9
 start-requires : tie.Need-start-requires
 start-requires c κs = search needs
 
--- src/sends.rt:75:39
 text-requires : tie.Need-text-requires
 text-requires c κs = search needs
 
--- src/sends.rt:75:9
 text-requires-2 : tie.Need-text-requires-2
 text-requires-2 c κs = search needs
 
--- src/sends.rt:77:9
 text-requires-3 : tie.Need-text-requires-3
 text-requires-3 c κs = search needs
 
--- src/sends.rt:69:1
 returns : tie.Need-returns
-returns c = ?
+returns c =
+    let t = c .before .before in
+    let f = t .before in
+    let a = f .before .before .args in
+    rw (t .if1 .taken, append-nil (wantedOf (conversion (a .b))), sent-append (a .s .settings) (starting (a .s)) (wantedOf (conversion 47)) (wantedOf (conversion (a .b))))
+    (rw (c .before .text .ensures, f .start .ensures) at (c .text2 .ensures))
 
--- src/sends.rt:69:1
 returns-2 : tie.Need-returns-2
-returns-2 c = ?
+returns-2 c =
+    let f = c .before .before in
+    rw (c .before .if1 .left, append-nil (wantedOf (conversion (f .before .before .args .b)))) (rw (f .start .ensures) at (c .text3 .ensures))
 
 pub send-text-spec : {M : Type 1} → statement M
 send-text-spec =
