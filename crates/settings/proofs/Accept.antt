@@ -1,18 +1,18 @@
 -- A command without error passed every test; one with an error changes nothing.
 -- Assumes nothing.
-use Prim.Native.Nat.{ℕ, _+_}
+use Prim.Native.Nat.{ℕ}
 use mathlib.Core.Path.{_≡_, refl, ap}
-use mathlib.Core.Bool.{Bool, true, false, cond, _&&_, true≢false, false≢true}
+use mathlib.Core.Bool.{Bool, true, false, cond, _&&_, false≢true}
 use mathlib.Core.List.{List, [], _∷_}
 use native.Mathlib.Omega.{arith}
 use borrow.Author.Tests.{eqb-true}
 use lib.Dec.{eqb}
 use lib.ListN.{getD}
-use Rattle.settings.specs.Names.{Verb, Write, Read, Other, Settings, Connection, Id, Undefined, Takes, Count, Fault, Outcome}
+use Rattle.settings.specs.Names.{Verb, Write, Read, Other, Settings, Connection, Id, Undefined, Takes, Count, Fault}
 use Rattle.settings.specs.Names.takes
 use Rattle.settings.specs.Names.fault
 use Rattle.settings.specs.Table.{row, ids, seek, idOf, takenBy}
-use Rattle.settings.specs.Command.{checked, fitting, ranged, faultIn, faultOf, numberOf, kept, succeeded, refused, answered, commanded}
+use Rattle.settings.specs.Command.{checked, fitting, ranged, faultIn, faultOf, numberOf, succeeded, refused, answered, commanded}
 
 pub both : (a b : Bool) → (a && b) ≡ true → (a ≡ true) × (b ≡ true)
 both true b e = (refl, e)

@@ -3,7 +3,7 @@
 use Prim.Native.Nat.{ℕ, suc, _+_, _*_, _/_, _%_, _≤_}
 use mathlib.Core.Path.{_≡_, refl, sym}
 use mathlib.Core.Bool.{Bool, true, false, cond, _&&_, _||_, false≢true}
-use mathlib.Core.List.{List, [], _∷_, _++_}
+use mathlib.Core.List.{List, [], _∷_}
 use native.Mathlib.Nat.{le-trans}
 use native.Mathlib.Omega.{arith}
 use borrow.Author.Tests.{leb-true, ltb-false, eqb-true}
@@ -13,10 +13,10 @@ use Rattle.message.specs.Message.{crlf, digit, digits, numbers, framed}
 use Rattle.message.specs.Find.{AllBytes, Counted}
 use Rattle.settings.specs.Names.{Verb, Settings, Connection, Mode1, Mode4, Mode10, Mode11, Id, Version, Ascii, Baudot, Spacing, Marking, Endings, Limit, OnSpace, OnReturn, Filter, Reports, Ending, Factory, Undefined, Fault, Stored}
 use Rattle.settings.specs.Names.fault
-use Rattle.settings.specs.Table.{between, isSpeed, allCodes, early, padded, opens, soundString, inRange, idOf, soundConnection}
-use Rattle.settings.specs.Command.{faultOf, numberOf, kept, bit, obey, connectionNumbers, reading, answered, commanded}
+use Rattle.settings.specs.Table.{between, isSpeed, allCodes, early, padded, opens, soundString, idOf, soundConnection}
+use Rattle.settings.specs.Command.{faultOf, numberOf, bit, obey, connectionNumbers, reading, answered, commanded}
 use Rattle.settings.specs.Laws.{answerOf, Sound, Sendable, Short}
-use Rattle.settings.proofs.Accept.{both, Accepted, accepted}
+use Rattle.settings.proofs.Accept.{both, accepted}
 use Rattle.settings.proofs.Written.{answer-outcome, defined, parts, obey-sound}
 
 -- How long a message is.

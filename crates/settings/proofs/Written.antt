@@ -1,9 +1,9 @@
 -- What is written is what was given, and is read back; sound settings and connection stay sound.
 -- Assumes nothing.
-use Prim.Native.Nat.{ℕ, _+_, _-_}
+use Prim.Native.Nat.{ℕ, _-_}
 use mathlib.Core.Path.{_≡_, refl, ap, sym, _∙_}
-use mathlib.Core.Bool.{Bool, true, false, _&&_}
-use mathlib.Core.List.{List, [], _∷_, _++_}
+use mathlib.Core.Bool.{Bool, true, false}
+use mathlib.Core.List.{List, [], _∷_}
 use native.Mathlib.Omega.{arith}
 use borrow.Author.Tests.{leb-true, eqb-true, eqb-false}
 use lib.Dec.{eqb, leb}
@@ -12,8 +12,8 @@ use lib.Seq.{length-take-le, take-append-seam}
 use Rattle.settings.specs.Names.{Verb, Write, Read, Other, Settings, Connection, Id, Version, Ascii, Baudot, Spacing, Marking, Endings, Limit, OnSpace, OnReturn, Filter, Reports, Ending, Factory, Undefined, Takes, Count, Fault, Stored}
 use Rattle.settings.specs.Names.takes
 use Rattle.settings.specs.Names.fault
-use Rattle.settings.specs.Table.{between, inRange, row, idOf, takenBy, isOn, factory, soundString, soundSettings, soundConnection}
-use Rattle.settings.specs.Command.{faultOf, kept, store, obey, bit, reading, outcome, succeeded, answered, commanded}
+use Rattle.settings.specs.Table.{between, inRange, row, idOf, takenBy, isOn, factory, soundString, soundSettings}
+use Rattle.settings.specs.Command.{faultOf, kept, store, obey, bit, reading, outcome, answered, commanded}
 use Rattle.settings.specs.Laws.{answerOf, readBy, Sound}
 use Rattle.settings.proofs.Accept.{both, Accepted, accepted, success, found}
 
@@ -130,6 +130,10 @@ readable Reports n e h = refl
 readable Ending n e h = refl
 readable Factory n e h = absurd (h refl)
 readable Undefined n e h = absurd (never n e)
+
+-- by its id and 0
+pub read-passes : (fields : List ℕ) → row (idOf (getD fields 0 0)) .reads ≡ Count 0 → getD fields 1 0 ≡ 0 → faultOf Read 2 fields ≡ fault.Nothing
+read-passes fields t n = rw (t, n)
 
 -- 250 gives the factory settings and keeps the connection
 pub reset : (s : Settings) (c : Connection) (count : ℕ) (fields : List ℕ) → faultOf Write count fields ≡ fault.Nothing → idOf (getD fields 0 0) ≡ Factory → commanded s c Write count fields .stored ≡ kept factory c

@@ -6,7 +6,7 @@ use mathlib.Core.List.{List}
 use lib.ListN.{length, take}
 use Rattle.message.specs.Message.{framed}
 use Rattle.message.specs.Find.{AllBytes, Counted}
-use Rattle.settings.specs.Names.{Settings, Connection, Id, Version, Ascii, Baudot, Spacing, Marking, Endings, Limit, OnSpace, OnReturn, Filter, Reports, Ending, Factory, Undefined, Stored, Outcome}
+use Rattle.settings.specs.Names.{Settings, Connection, Id, Version, Ascii, Baudot, Spacing, Marking, Endings, Limit, OnSpace, OnReturn, Filter, Reports, Ending, Factory, Undefined, Outcome}
 use Rattle.settings.specs.Table.{soundSettings, soundConnection}
 
 -- the numbers that an outcome answers

@@ -9,6 +9,7 @@ use Rattle.settings.specs.Names.takes
 
 -- Ranges of the parameters.
 
+-- from one number to another
 abbrev pub between : ℕ → ℕ → ℕ → Bool
 between low high n = leb low n && leb n high
 
@@ -16,10 +17,12 @@ between low high n = leb low n && leb n high
 abbrev pub isSpeed : ℕ → Bool
 isSpeed n = eqb n 60 || (eqb n 66 || (eqb n 75 || eqb n 100))
 
+-- codes are 0 to 31
 abbrev pub allCodes : List ℕ → Bool
 allCodes [] = true
 allCodes (c ∷ cs) = leb c 31 && allCodes cs
 
+-- all are 0
 abbrev pub allZero : List ℕ → Bool
 allZero [] = true
 allZero (c ∷ cs) = eqb c 0 && allZero cs
@@ -29,6 +32,7 @@ abbrev pub padded : List ℕ → Bool
 padded [] = true
 padded (c ∷ cs) = cond (eqb c 0) (allZero cs) (padded cs)
 
+-- what may stand before the first 8
 abbrev pub early : ℕ → Bool
 early c = eqb c 2 || (eqb c 27 || eqb c 31)
 
@@ -37,6 +41,7 @@ abbrev pub opens : List ℕ → Bool
 opens [] = false
 opens (c ∷ cs) = eqb c 8 || (early c && opens cs)
 
+-- the rules of string 90
 unfoldable pub soundString : List ℕ → Bool
 soundString cs = allCodes cs && (padded cs && opens cs)
 
@@ -75,9 +80,11 @@ row Ending = is 90 (Count 8) (Count 0) Codes (8 ∷ 8 ∷ 2 ∷ 31 ∷ 31 ∷ 0 
 row Factory = is 250 (Count 0) takes.Nothing Free []
 row Undefined = is 256 takes.Nothing takes.Nothing Free []
 
+-- every id that the table has
 abbrev pub ids : List Id
 ids = Version ∷ Ascii ∷ Baudot ∷ Spacing ∷ Marking ∷ Endings ∷ Limit ∷ OnSpace ∷ OnReturn ∷ Filter ∷ Reports ∷ Ending ∷ Factory ∷ []
 
+-- the first id with that number
 abbrev pub seek : List Id → ℕ → Id
 seek [] n = Undefined
 seek (i ∷ is) n = cond (eqb n (row i .number)) i (seek is n)
@@ -86,17 +93,21 @@ seek (i ∷ is) n = cond (eqb n (row i .number)) i (seek is n)
 unfoldable pub idOf : ℕ → Id
 idOf n = seek ids n
 
+-- how many parameters a command of this type has
 abbrev pub takenBy : Verb → Id → Takes
 takenBy Write id = row id .writes
 takenBy Read id = row id .reads
 takenBy Other id = takes.Nothing
 
+-- 1 is on
 abbrev pub isOn : ℕ → Bool
 isOn n = eqb n 1
 
+-- the factory value of a setting with one
 abbrev pub value : Id → ℕ
 value id = getD (row id .factory) 0 0
 
+-- the factory settings
 abbrev pub factory : Settings
 factory = record {
   endings = isOn (value Endings);
@@ -110,9 +121,11 @@ factory = record {
 
 -- Sound: every setting and the connection in the table's ranges, string 90 by its rules.
 
+-- options are 0 or 1 by their form
 abbrev pub soundSettings : Settings → Bool
 soundSettings s = inRange (row Limit .range) (s .limit ∷ []) && soundString (s .string)
 
+-- port and speed, where the mode has them
 abbrev pub soundConnection : Connection → Bool
 soundConnection (Mode1 port speed) = inRange (row Ascii .range) (port ∷ speed ∷ [])
 soundConnection (Mode4 port speed) = inRange (row Baudot .range) (port ∷ speed ∷ [])

@@ -86,6 +86,26 @@ fn connection(stored: Stored) -> Outcome
     }
 }
 
+// String 90.
+fn ending(stored: Stored) -> Outcome
+    ensures { λ r. ⌜ r ≡ outcome stored (90 ∷ 8 ∷ stored .settings .string) ⌝ }
+{
+    let settings = stored.settings;
+    let s = settings.string;
+    eight(stored, 90, s)
+}
+
+// An id that the table does not have.
+fn nothing(stored: Stored) -> Outcome
+    ensures { λ r. ⌜ r ≡ outcome stored [] ⌝ }
+{
+    Outcome {
+        stored,
+        numbers: [0; 10],
+        count: 0,
+    }
+}
+
 // What is stored under an id.
 pub fn read_out(stored: Stored, id: Id) -> Outcome
     ensures { λ r. ⌜ r ≡ outcome stored (reading stored id) ⌝ }
@@ -106,25 +126,5 @@ pub fn read_out(stored: Stored, id: Id) -> Outcome
         Id::Ending => ending(stored),
         Id::Factory => none(stored, 250),
         Id::Undefined => nothing(stored),
-    }
-}
-
-// String 90.
-fn ending(stored: Stored) -> Outcome
-    ensures { λ r. ⌜ r ≡ outcome stored (90 ∷ 8 ∷ stored .settings .string) ⌝ }
-{
-    let settings = stored.settings;
-    let s = settings.string;
-    eight(stored, 90, s)
-}
-
-// An id that the table does not have.
-fn nothing(stored: Stored) -> Outcome
-    ensures { λ r. ⌜ r ≡ outcome stored [] ⌝ }
-{
-    Outcome {
-        stored,
-        numbers: [0; 10],
-        count: 0,
     }
 }

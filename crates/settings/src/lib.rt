@@ -12,9 +12,8 @@ use faults::parameters;
 use store::keep;
 use store::obey;
 use string::sound_string;
+use table::holds;
 use table::id_of;
-use table::is_between;
-use table::is_link;
 
 mod answer;
 mod faults;
@@ -119,7 +118,7 @@ fn settings_sound(s: Settings) -> bool
     ensures { λ r. ⌜ r ≡ soundSettings s ⌝ }
 {
     let string = s.string;
-    is_between(10, 80, s.limit) & sound_string(string)
+    holds(Id::Limit, s.limit, 0) & sound_string(string)
 }
 
 // Whether the connection is in the table's ranges.
@@ -127,8 +126,8 @@ fn connection_sound(c: Connection) -> bool
     ensures { λ r. ⌜ r ≡ soundConnection c ⌝ }
 {
     match c {
-        Connection::Mode1(port, speed) => is_link(4, port, speed),
-        Connection::Mode4(port, speed) => is_link(3, port, speed),
+        Connection::Mode1(port, speed) => holds(Id::Ascii, port, speed),
+        Connection::Mode4(port, speed) => holds(Id::Baudot, port, speed),
         Connection::Mode10 => true,
         Connection::Mode11 => true,
     }

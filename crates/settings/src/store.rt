@@ -8,7 +8,9 @@ use crate::Stored;
 use crate::table::first_eight;
 use command::Verb;
 
+// The settings with one of them changed.
 impl Settings {
+    // Line endings on or off.
     fn with_endings(mut self, x: bool) -> Settings
         ensures { λ r. ⌜ r ≡ withEndings self x ⌝ }
     {
@@ -16,6 +18,7 @@ impl Settings {
         self
     }
 
+    // Their limit.
     fn with_limit(mut self, x: u8) -> Settings
         ensures { λ r. ⌜ r ≡ withLimit self x ⌝ }
     {
@@ -23,6 +26,7 @@ impl Settings {
         self
     }
 
+    // Unshift on space.
     fn with_onspace(mut self, x: bool) -> Settings
         ensures { λ r. ⌜ r ≡ withOnspace self x ⌝ }
     {
@@ -30,6 +34,7 @@ impl Settings {
         self
     }
 
+    // Unshift on return.
     fn with_onreturn(mut self, x: bool) -> Settings
         ensures { λ r. ⌜ r ≡ withOnreturn self x ⌝ }
     {
@@ -37,6 +42,7 @@ impl Settings {
         self
     }
 
+    // The filter of shifts.
     fn with_filter(mut self, x: bool) -> Settings
         ensures { λ r. ⌜ r ≡ withFilter self x ⌝ }
     {
@@ -44,6 +50,7 @@ impl Settings {
         self
     }
 
+    // Reports of shifts.
     fn with_reports(mut self, x: bool) -> Settings
         ensures { λ r. ⌜ r ≡ withReports self x ⌝ }
     {
@@ -51,6 +58,7 @@ impl Settings {
         self
     }
 
+    // The line ending.
     fn with_string(mut self, x: [u8; 8]) -> Settings
         ensures { λ r. ⌜ r ≡ withString self x ⌝ }
     {

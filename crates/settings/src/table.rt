@@ -1,7 +1,7 @@
 // The table of ids in code: their numbers, how many parameters they take, and the ranges of these.
 ghost use mathlib.Core.Path.{_≡_};
 ghost use mathlib.Core.List.{[], _∷_};
-ghost use lib.ListN.{take};
+ghost use lib.ListN.{take, replicate};
 ghost use Rattle.settings.specs.Names.{Link};
 ghost use Rattle.settings.specs.Table.{between, isSpeed, inRange, row, idOf};
 use crate::Id;
@@ -76,7 +76,7 @@ pub fn reads(id: Id) -> Takes
 }
 
 // Whether a number lies in a range.
-pub fn is_between(low: u8, high: u8, n: u8) -> bool
+fn is_between(low: u8, high: u8, n: u8) -> bool
     ensures { λ r. ⌜ r ≡ between low high n ⌝ }
 {
     (low <= n) & (n <= high)
@@ -90,7 +90,7 @@ fn is_speed(n: u8) -> bool
 }
 
 // Whether two numbers are a port, from 1 to the last, and a speed.
-pub fn is_link(last: u8, port: u8, speed: u8) -> bool
+fn is_link(last: u8, port: u8, speed: u8) -> bool
     ensures { λ r. ⌜ r ≡ inRange (Link last) (port ∷ speed ∷ []) ⌝ }
 {
     is_between(1, last, port) & is_speed(speed)
@@ -137,4 +137,11 @@ pub fn in_range(range: Range, ps: [u8; 9]) -> bool
         Range::Link(last) => is_link(last, first, second),
         Range::Codes => sound_string(first_eight(ps)),
     }
+}
+
+// Whether values are in an id's range, of which there are at most two.
+pub fn holds(id: Id, first: u8, second: u8) -> bool
+    ensures { λ r. ⌜ r ≡ inRange (row id .range) (first ∷ second ∷ replicate 7 0) ⌝ }
+{
+    in_range(range_of(id), [first, second, 0, 0, 0, 0, 0, 0, 0])
 }

@@ -1,10 +1,10 @@
 -- `settings::run` meets its contract: where there is no fault it succeeds as `succeeded` says, and any other is refused.
 -- Assumes nothing.
-use mathlib.Core.Path.{_≡_, sym, _∙_}
+use mathlib.Core.Path.{sym, _∙_}
 use mathlib.Core.List.{[], _∷_}
 use types.Run.{miss}
-use Rattle.settings.proofs.Accept.{success, refusal}
 use borrow.Author.Needs.{needs}
+use Rattle.settings.proofs.Accept.{success, refusal}
 use Rattle.settings.proofs.run.Statement.{statement}
 use Rattle.settings.proofs.run.Tie as tie
 

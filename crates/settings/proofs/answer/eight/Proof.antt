@@ -1,8 +1,7 @@
 -- `settings::answer::eight` meets its contract: a list is its elements.
 -- Assumes nothing.
-use mathlib.Core.Path.{ap, sym}
-use Rattle.settings.proofs.Walk.{spread-all}
 use borrow.Author.Needs.{needs}
+use Rattle.settings.proofs.Walk.{spread-all}
 use Rattle.settings.proofs.answer.eight.Statement.{statement}
 use Rattle.settings.proofs.answer.eight.Tie as tie
 

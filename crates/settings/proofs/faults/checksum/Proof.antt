@@ -1,17 +1,15 @@
 -- `settings::faults::checksum` meets its contract. The loop's invariant: the total and the sum of those of the first n fields that stand from
 -- place `i` on make the whole sum, modulo 256.
 -- Assumes nothing.
-use Prim.Native.Nat.{ℕ, zero, suc, _%_}
+use Prim.Native.Nat.{ℕ, zero, suc, _%_, _≤_, _<_, _+_, _-_}
 use mathlib.Core.Path.{_≡_, refl, sym, _∙_}
 use mathlib.Core.List.{List, [], _∷_}
 use native.Mathlib.Omega.{arith}
 use native.Mathlib.Numerals.{add-one}
 use native.Mathlib.Nat.{mod-lt, mod-add-mod, mod-eq-of-lt, add-assoc, zero-add, add-zero, sub-zero, sub-self}
+use borrow.Author.Needs.{needs}
 use lib.ListN.{getD, take, drop}
 use Rattle.settings.specs.Command.{sum}
-use Prim.Native.Nat.{_≤_, _<_, _+_, _-_}
-use lib.ListN.{length}
-use borrow.Author.Needs.{needs}
 use Rattle.settings.proofs.faults.checksum.Statement.{statement}
 use Rattle.settings.proofs.faults.checksum.Tie as tie
 

@@ -2,8 +2,8 @@
 -- Assumes nothing.
 use mathlib.Core.Path.{_≡_, sym}
 use native.Mathlib.Omega.{arith}
-use lib.ListN.{length, List·getD-eq-default}
 use borrow.Author.Needs.{needs}
+use lib.ListN.{length, List·getD-eq-default}
 use Rattle.settings.proofs.faults.field_at.Statement.{statement}
 use Rattle.settings.proofs.faults.field_at.Tie as tie
 

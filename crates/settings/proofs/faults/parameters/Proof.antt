@@ -1,8 +1,8 @@
 -- `settings::faults::parameters` meets its contract: a list is its elements.
 -- Assumes nothing.
 use mathlib.Core.Path.{sym}
-use Rattle.settings.proofs.Walk.{spread-all}
 use borrow.Author.Needs.{needs}
+use Rattle.settings.proofs.Walk.{spread-all}
 use Rattle.settings.proofs.faults.parameters.Statement.{statement}
 use Rattle.settings.proofs.faults.parameters.Tie as tie
 

@@ -1,9 +1,9 @@
 -- `settings::table::first_eight` meets its contract: a list is its elements.
 -- Assumes nothing.
 use mathlib.Core.Path.{sym, ap}
+use borrow.Author.Needs.{needs}
 use lib.ListN.{take}
 use Rattle.settings.proofs.Walk.{spread-all}
-use borrow.Author.Needs.{needs}
 use Rattle.settings.proofs.table.first_eight.Statement.{statement}
 use Rattle.settings.proofs.table.first_eight.Tie as tie
 
