@@ -113,3 +113,19 @@ abbrev pub step : Stream → State → ℕ → Step
 step Host s b = hostStep s b
 step Line s c = lineStep s c
 step Tu s c = tuStep s c
+
+-- An event is a byte of a stream; many events are run one after the other.
+
+pub record Event : Type 0 where
+  pub stream : Stream
+  pub byte : ℕ
+
+-- the state after events
+abbrev pub run : State → List Event → State
+run s [] = s
+run s (e ∷ es) = run (step (e .stream) s (e .byte) .state) es
+
+-- what each event did
+abbrev pub steps : State → List Event → List Step
+steps s [] = []
+steps s (e ∷ es) = step (e .stream) s (e .byte) ∷ steps (step (e .stream) s (e .byte) .state) es
