@@ -1,5 +1,6 @@
 // The box: one state, three calls, four answers.
 
+mod answers;
 mod line;
 mod puts;
 mod sends;

@@ -11,10 +11,10 @@ use lib.Dec.{eqb, leb, ltb, lit≤}
 use lib.ListN.{length, getD, drop, length-append}
 use Rattle.message.specs.Message.{crlf, digit, digits, numbers, framed}
 use Rattle.message.specs.Find.{AllBytes, Counted}
-use Rattle.settings.specs.Names.{Verb, Settings, Connection, Mode1, Mode4, Mode10, Mode11, Id, Version, Ascii, Baudot, Spacing, Marking, Endings, Limit, OnSpace, OnReturn, Filter, Reports, Ending, Factory, Undefined, Fault, Stored}
+use Rattle.settings.specs.Names.{Outcome, Verb, Settings, Connection, Mode1, Mode4, Mode10, Mode11, Id, Version, Ascii, Baudot, Spacing, Marking, Endings, Limit, OnSpace, OnReturn, Filter, Reports, Ending, Factory, Undefined, Fault, Stored}
 use Rattle.settings.specs.Names.fault
 use Rattle.settings.specs.Table.{between, isSpeed, allCodes, early, padded, opens, soundString, idOf, soundConnection}
-use Rattle.settings.specs.Command.{faultOf, numberOf, bit, obey, connectionNumbers, reading, answered, commanded}
+use Rattle.settings.specs.Command.{faultOf, numberOf, bit, obey, connectionNumbers, reading, kept, outcome, answered, commanded}
 use Rattle.settings.specs.Laws.{answerOf, Sound, Sendable, Short}
 use Rattle.settings.proofs.Accept.{both, accepted}
 use Rattle.settings.proofs.Written.{answer-outcome, defined, parts, obey-sound}
@@ -150,21 +150,21 @@ read t Ending h d = string (t .settings .string) (parts (t .settings) (t .connec
 read t Factory h d = few (250 ∷ 0 ∷ []) (lit≤ tt, (lit≤ tt, tt)) refl (lit≤ tt)
 read t Undefined h d = absurd (d refl)
 
--- a command answers a refusal of its id, or a message
+-- a command refuses, or succeeds with a message
 module _ (s : Settings) (c : Connection) (h : Sound s c) (v : Verb) (count : ℕ) (fields : List ℕ) (l : length fields ≡ 11) where
-  abbrev refused : Fault → List ℕ
-  refused f = 255 ∷ 2 ∷ getD fields 0 0 ∷ numberOf f ∷ []
+  abbrev refusing : Fault → List ℕ
+  refusing f = 255 ∷ 2 ∷ getD fields 0 0 ∷ numberOf f ∷ []
 
-  answers-by : (P : List ℕ → Type 0) → ((f : Fault) → P (refused f)) → ((ns : List ℕ) → Sendable ns → P ns) → P (answerOf (commanded s c v count fields))
+  answers-by : (P : Outcome → Type 0) → ((f : Fault) → P (outcome (kept s c) (refusing f))) → ((t : Stored) (ns : List ℕ) → Sendable ns → P (outcome t ns)) → P (commanded s c v count fields)
   unfolding commanded
   answers-by P refuses sends = go (faultOf v count fields) refl
     where
-      go : (f : Fault) → faultOf v count fields ≡ f → P (answerOf (answered f s c v fields))
+      go : (f : Fault) → faultOf v count fields ≡ f → P (answered f s c v fields)
       go fault.Nothing e =
           let i = idOf (getD fields 0 0) in
           let a = accepted v count fields e in
           let t = obey s c v i (drop 2 fields) in
-          rw answer-outcome (sends (reading t i) (read t i (obey-sound s c h v _ i fields l a) (defined v i (a .n) (a .takes))))
+          sends t (reading t i) (read t i (obey-sound s c h v _ i fields l a) (defined v i (a .n) (a .takes)))
       go fault.Type e = refuses fault.Type
       go fault.Id e = refuses fault.Id
       go fault.Parameters e = refuses fault.Parameters
@@ -174,10 +174,10 @@ module _ (s : Settings) (c : Connection) (h : Sound s c) (v : Verb) (count : ℕ
   -- from sound settings any command answers a message, of at most 36 bytes
   pub answers : getD fields 0 0 ≤ 255 → Sendable (answerOf (commanded s c v count fields))
   answers byte =
-      answers-by Sendable (λ f. few (refused f) (lit≤ tt, (lit≤ tt, (byte, (fault-byte f, tt)))) refl (lit≤ tt)) (λ ns sent. sent)
+      answers-by (λ o. Sendable (answerOf o)) (λ f. few (refusing f) (lit≤ tt, (lit≤ tt, (byte, (fault-byte f, tt)))) refl (lit≤ tt)) (λ t ns sent. rw answer-outcome sent)
 
-  -- whatever stands in its first field, the answer has 2 to 10 numbers and is short
-  pub answers-short : Short (answerOf (commanded s c v count fields))
+  -- whatever stands in its first field, the answer is short
+  pub answers-short : Short (commanded s c v count fields)
   answers-short =
-      answers-by Short (λ f. record { few = lit≤ tt; short = omega (arith, frame (refused f), any (refused f)) })
-      (λ ns sent. record { few = sent .few; short = sent .short })
+      answers-by Short (λ f. record { few = lit≤ tt; short = omega (arith, frame (refusing f), any (refusing f)) })
+      (λ t ns sent. record { few = sent .few; short = rw answer-outcome (sent .short) })

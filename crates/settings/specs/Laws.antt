@@ -44,6 +44,6 @@ pub record Sendable (ns : List ℕ) : Type 0 where
   pub short : length (framed ns) ≤ 36
 
 -- at most ten numbers, and at most 36 bytes as a message
-pub record Short (ns : List ℕ) : Type 0 where
-  pub few : length ns ≤ 10
-  pub short : length (framed ns) ≤ 36
+pub record Short (o : Outcome) : Type 0 where
+  pub few : o .count ≤ 10
+  pub short : length (framed (answerOf o)) ≤ 36
