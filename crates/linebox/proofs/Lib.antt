@@ -1,3 +1,4 @@
 pub mod Bytes
 pub mod Modes
 pub mod Sent
+pub mod Answered

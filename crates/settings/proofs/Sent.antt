@@ -1,7 +1,7 @@
 -- What a command answers can be sent: its numbers are those of a message, of at most 36 bytes.
 -- Assumes nothing.
 use Prim.Native.Nat.{ℕ, suc, _+_, _*_, _/_, _%_, _≤_}
-use mathlib.Core.Path.{_≡_, refl, sym}
+use mathlib.Core.Path.{_≡_, refl, sym, subst}
 use mathlib.Core.Bool.{Bool, true, false, cond, _&&_, _||_, false≢true}
 use mathlib.Core.List.{List, [], _∷_}
 use native.Mathlib.Nat.{le-trans}
@@ -180,4 +180,4 @@ module _ (s : Settings) (c : Connection) (h : Sound s c) (v : Verb) (count : ℕ
   pub answers-short : Short (commanded s c v count fields)
   answers-short =
       answers-by Short (λ f. record { few = lit≤ tt; short = omega (arith, frame (refusing f), any (refusing f)) })
-      (λ t ns sent. record { few = sent .few; short = rw answer-outcome (sent .short) })
+      (λ t ns sent. record { few = sent .few; short = subst (λ (l : List ℕ). length (framed l) ≤ 36) (sym (answer-outcome t ns)) (sent .short) })
