@@ -2,3 +2,4 @@ pub mod Bytes
 pub mod Modes
 pub mod Sent
 pub mod Answered
+pub mod Stays

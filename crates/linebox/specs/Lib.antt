@@ -3,3 +3,4 @@ pub mod State
 pub mod Step
 pub mod Call
 pub mod Byte
+pub mod Laws
