@@ -9,9 +9,9 @@ use Rattle.laws.specs.Written.{fronted}
 use Rattle.sender.specs.declared.Burst.{Burst}
 use Rattle.sender.specs.declared.Sent.{Sent}
 use Rattle.sender.specs.Burst.{empty, codesOf}
-use Rattle.linebox.specs.Names.{State, Stream, Took, Taken}
+use Rattle.linebox.specs.Names.{State, Stream, Took, Taken, Called}
 use Rattle.linebox.specs.Step.{Step, step}
-use Rattle.linebox.specs.Call.{firstOf, secondOf, fits}
+use Rattle.linebox.specs.Call.{firstOf, secondOf, fits, Done, called}
 
 -- one buffer: all of `new` at its front, or no place touched
 pub record Puts (after : State) (new old now : List ℕ) (r : Took) : Type 0 where
@@ -50,3 +50,9 @@ inSecond r = record { fits = r .fits; state = r .state; first = 0; second = r .c
 -- the state's sender, and no codes yet
 abbrev pub starting : State → Sent
 starting s = record { sender = s .sender; burst = empty }
+
+-- A whole call: what it gives is the definition's, and each buffer is the old one with what was written at its front.
+pub record Calls (d : Done) (old₁ old₂ now₁ now₂ : List ℕ) (r : Called) : Type 0 where
+  pub gives : r ≡ called d
+  pub one : now₁ ≡ fronted old₁ (d .first)
+  pub two : now₂ ≡ fronted old₂ (d .second)

@@ -1,9 +1,12 @@
 // The box: one state, three calls, four answers.
 
 mod answers;
+pub mod calls;
+mod host;
 mod line;
 mod puts;
 mod sends;
+pub mod soundness;
 
 use code::Case;
 use command::Reader;
