@@ -1,10 +1,12 @@
 // The three calls, by one loop over the bytes of a stream.
 ghost use mathlib.Core.Path.{_≡_};
+ghost use mathlib.Core.Bool.{true};
 ghost use lib.ListN.{length, drop};
 ghost use Rattle.settings.specs.Laws.{Sound};
 ghost use Rattle.linebox.specs.Names.{Host as Names·Host, Line as Names·Line, Tu as Names·Tu};
 ghost use Rattle.linebox.specs.Step.{step};
-ghost use Rattle.linebox.specs.Call.{refuses, call, called};
+ghost use Rattle.linebox.specs.State.{sound};
+ghost use Rattle.linebox.specs.Call.{refuses, taking, call};
 ghost use Rattle.linebox.specs.Byte.{Offers, Calls};
 use crate::Answer;
 use crate::Called;
@@ -39,5 +41,51 @@ fn put_byte(t: Stream, s: State, b: u8, first: &mut [u8], second: &mut [u8]) -> 
         Stream::Host => put_host(s, b, first, second),
         Stream::Line => put_line(s, b, first, second),
         Stream::Tu => in_first(put_tu(s, b, first)),
+    }
+}
+
+// The bytes of a stream from a sound state, as many as have room, into the two buffers from their starts on.
+fn take_all(t: Stream, start: State, input: &[u8], first: &mut [u8], second: &mut [u8]) -> Called
+    requires { ⌜ sound start ≡ true ⌝ }
+    ensures { λ r. ⌜
+        Calls (taking t start (now (input .entry)) (length (now (first .entry))) (length (now (second .entry)))) (now (first .entry)) (now (second .entry)) (now (first .exit)) (now (second .exit)) r
+        ⌝ }
+{
+    let mut state = start;
+    let mut taken = 0;
+    let mut one = 0;
+    let mut two = 0;
+    while taken < input.len() {
+        let b = input[taken];
+        if is_refused(t, state, b) {
+            return Called {
+                answer: Answer::NoCode,
+                taken,
+                first: one,
+                second: two,
+                state,
+            };
+        }
+        let x = put_byte(t, state, b, &mut first[one..], &mut second[two..]);
+        if !x.fits {
+            return Called {
+                answer: Answer::NoRoom,
+                taken,
+                first: one,
+                second: two,
+                state,
+            };
+        }
+        state = x.state;
+        one += x.first;
+        two += x.second;
+        taken += 1;
+    }
+    Called {
+        answer: Answer::All,
+        taken,
+        first: one,
+        second: two,
+        state,
     }
 }
