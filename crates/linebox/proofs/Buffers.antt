@@ -2,14 +2,14 @@
 -- Assumes nothing.
 use Prim.Native.Nat.{ℕ, _+_, _-_, _≤_}
 use mathlib.Core.Path.{_≡_, refl, sym, ap, _∙_}
-use mathlib.Core.List.{List, _++_}
+use mathlib.Core.List.{List, [], _++_}
 use native.Mathlib.Omega.{arith}
 use native.Mathlib.Nat.{le-of-eq}
 use borrow.Rule.Slice.PartMut.{putMid, midOf}
 use lib.ListN.{length, drop, length-append, length-drop}
 use lib.Seq.{take-all}
 use Rattle.laws.specs.Written.{written, fronted}
-use Rattle.laws.proofs.Tail.{lent, fronted-more, length-fronted}
+use Rattle.laws.proofs.Tail.{written-none, lent, fronted-more, length-fronted}
 
 -- the part still free
 pub free-length : (xs : List ℕ) (k : ℕ) → length (midOf k (length xs - k) xs) ≡ length xs - k
@@ -33,3 +33,7 @@ filled-more old now p f ys k h fits e =
       same-length = ap length m ∙ length-fronted old (p ++ f) (omega (arith, h .count, h .room));
       places = m;
     }
+
+-- a free part that comes back as it was
+pub unfilled : (now ys : List ℕ) (k : ℕ) → ys ≡ midOf k (length now - k) now → putMid k (length now - k) now ys ≡ now
+unfilled now ys k e = lent now ys k [] e ∙ sym (written-none now k)

@@ -2,7 +2,7 @@
 -- Assumes nothing.
 use Prim.Native.Nat.{ℕ, suc, _+_, _-_, _≤_, _<_}
 use mathlib.Core.Path.{_≡_, refl, sym, ap, _∙_}
-use mathlib.Core.Bool.{Bool, true, false, cond, _&&_}
+use mathlib.Core.Bool.{Bool, true, false, not}
 use mathlib.Core.List.{List, [], _∷_, _++_, append-nil, append-assoc}
 use native.Mathlib.Omega.{arith}
 use native.Mathlib.Numerals.{add-one}
@@ -20,8 +20,17 @@ use Rattle.linebox.specs.Step.{Step, step}
 use Rattle.linebox.specs.Call.{firstOf, secondOf, refuses, fits, Done, stopped, onward, taking, called}
 use Rattle.linebox.specs.Byte.{Offers, Calls}
 use Rattle.linebox.proofs.Stays.{sound-step}
-use Rattle.linebox.proofs.Buffers.{Filled, free-length, filled-more}
+use Rattle.linebox.proofs.Buffers.{Filled, free-length, filled-more, unfilled}
 use Rattle.laws.proofs.Both.{both}
+
+-- a test that was turned round
+pub turned-true : (b : Bool) → not b ≡ true → b ≡ false
+turned-true true h = sym h
+turned-true false h = refl
+
+pub turned-false : (b : Bool) → not b ≡ false → b ≡ true
+turned-false true h = refl
+turned-false false h = sym h
 
 -- n bytes taken, with p and q written, before the rest
 abbrev pub before : ℕ → List ℕ → List ℕ → Done → Done
@@ -84,6 +93,20 @@ module _ (t : Stream) (start : State) (input old₁ old₂ : List ℕ) where
         → taking t s (drop n input) a b ≡ onward t next (taking t (next .state) (drop (n + 1) input) (a - length (firstOf t next)) (b - length (secondOf t next)))
     goes-on a b e f = rw (drop-cons input n 0 lt, e, f, add-one)
 
+    -- the room that the free parts have
+    rooms : (now₁ now₂ : List ℕ) (k₁ k₂ : ℕ) (b : Bool) → length now₁ ≡ length old₁ → length now₂ ≡ length old₂
+        → b ≡ fits t next (length (midOf k₁ (length now₁ - k₁) now₁)) (length (midOf k₂ (length now₂ - k₂) now₂)) → b ≡ fits t next (length old₁ - k₁) (length old₂ - k₂)
+    rooms now₁ now₂ k₁ k₂ b p q e = rw (free-length now₁ k₁, free-length now₂ k₂, p, q) at e
+
+    -- no byte more
+    pub stays : (now₁ now₂ ys₁ ys₂ : List ℕ) (k₁ k₂ : ℕ) (x : Taken) → Reached t start input old₁ old₂ s n now₁ now₂ k₁ k₂ → refuses t s (getD input n 0) ≡ false
+        → Offers t next (midOf k₁ (length now₁ - k₁) now₁) (midOf k₂ (length now₂ - k₂) now₂) ys₁ ys₂ x → x .fits ≡ false
+        → Calls (taking t start input (length old₁) (length old₂)) old₁ old₂ (putMid k₁ (length now₁ - k₁) now₁ ys₁) (putMid k₂ (length now₂ - k₂) now₂ ys₂) (record { answer = NoRoom; taken = n; first = k₁; second = k₂; state = s })
+    stays now₁ now₂ ys₁ ys₂ k₁ k₂ x r e o unfit =
+        let none : fits t next (length old₁ - k₁) (length old₂ - k₂) ≡ false = sym (rooms now₁ now₂ k₁ k₂ (x .fits) (r .one .same-length) (r .two .same-length) (o .fits)) ∙ unfit in
+        rw (unfilled now₁ ys₁ k₁ (rw unfit at (o .one)), unfilled now₂ ys₂ k₂ (rw unfit at (o .two)))
+        (stops s n now₁ now₂ k₁ k₂ NoRoom r (no-room (length old₁ - k₁) (length old₂ - k₂) e none))
+
     -- one byte more
     pub turn : (now₁ now₂ ys₁ ys₂ : List ℕ) (k₁ k₂ : ℕ) (x : Taken) → Reached t start input old₁ old₂ s n now₁ now₂ k₁ k₂ → refuses t s (getD input n 0) ≡ false
         → Offers t next (midOf k₁ (length now₁ - k₁) now₁) (midOf k₂ (length now₂ - k₂) now₂) ys₁ ys₂ x → x .fits ≡ true
@@ -93,9 +116,7 @@ module _ (t : Stream) (start : State) (input old₁ old₂ : List ℕ) where
         let g = secondOf t next in
         let a = length old₁ - k₁ in
         let b = length old₂ - k₂ in
-        let m₁ : length (midOf k₁ (length now₁ - k₁) now₁) ≡ a = free-length now₁ k₁ ∙ ap (λ (l : ℕ). l - k₁) (r .one .same-length) in
-        let m₂ : length (midOf k₂ (length now₂ - k₂) now₂) ≡ b = free-length now₂ k₂ ∙ ap (λ (l : ℕ). l - k₂) (r .two .same-length) in
-        let all : fits t next a b ≡ true = rw (fit, m₁, m₂) at (sym (o .fits)) in
+        let all : fits t next a b ≡ true = sym (rooms now₁ now₂ k₁ k₂ (x .fits) (r .one .same-length) (r .two .same-length) (o .fits)) ∙ fit in
         let h = both (leb (length f) a) (leb (length g) b) all in
         let i : x .first ≡ length f = rw fit at (o .first) in
         let j : x .second ≡ length g = rw fit at (o .second) in
@@ -110,3 +131,9 @@ module _ (t : Stream) (start : State) (input old₁ old₂ : List ℕ) where
           two = filled-more old₂ now₂ (r .q) g ys₂ k₂ (r .two) (leb-true (length g) b (h .1)) (rw fit at (o .two));
           rest = r .rest ∙ rw (goes-on a b e all, u, v) (moved t next n (r .p) (r .q) _);
         })
+
+    -- what is written then has room
+    pub turn-rooms : (now₁ now₂ ys₁ ys₂ : List ℕ) (k₁ k₂ : ℕ) (x : Taken) → Reached t start input old₁ old₂ s n now₁ now₂ k₁ k₂ → refuses t s (getD input n 0) ≡ false
+        → Offers t next (midOf k₁ (length now₁ - k₁) now₁) (midOf k₂ (length now₂ - k₂) now₂) ys₁ ys₂ x → x .fits ≡ true
+        → (k₁ + x .first ≤ length old₁) × (k₂ + x .second ≤ length old₂)
+    turn-rooms now₁ now₂ ys₁ ys₂ k₁ k₂ x r e o fit = let u = turn now₁ now₂ ys₁ ys₂ k₁ k₂ x r e o fit in (u .one .room, u .two .room)
