@@ -5,3 +5,5 @@ pub mod Answered
 pub mod Stays
 pub mod Buffers
 pub mod Turns
+pub mod Rest
+pub mod Most
