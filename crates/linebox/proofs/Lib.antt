@@ -7,3 +7,5 @@ pub mod Buffers
 pub mod Turns
 pub mod Rest
 pub mod Most
+pub mod Ending
+pub mod Cutting
