@@ -8,7 +8,7 @@ use native.Mathlib.Omega.{arith}
 use lib.ListN.{length, getD}
 use Rattle.linebox.proofs.Stays.{sound-parts}
 use Rattle.linebox.specs.Names.{All, NoCode}
-use Rattle.linebox.proofs.Buffers.{unfilled}
+use Rattle.laws.proofs.Filled.{unfilled}
 use Rattle.linebox.proofs.Turns.{turned-true, turned-false, Reached, reached, stops, all-taken, no-code, stays, turn, turn-rooms}
 use borrow.Author.Needs.{needs}
 use Rattle.linebox.proofs.calls.take_all.Statement.{statement}
