@@ -1,0 +1,6 @@
+pub mod Names
+pub mod Stop
+pub mod Watch
+pub mod Verdict
+pub mod Line
+pub mod Sheet
