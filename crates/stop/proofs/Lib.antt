@@ -1,2 +1,3 @@
 pub mod Stop
 pub mod Once
+pub mod Fits

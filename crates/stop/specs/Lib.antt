@@ -4,3 +4,4 @@ pub mod Watch
 pub mod Verdict
 pub mod Line
 pub mod Sheet
+pub mod Fits
