@@ -4,19 +4,20 @@
 -- Assumes nothing.
 use Prim.Native.Nat.{ℕ, _+_, _≤_, min}
 use mathlib.Core.Path.{_≡_, refl, sym, ap, _∙_}
-use mathlib.Core.Bool.{Bool, true, false, cond, _||_}
+use mathlib.Core.Bool.{Bool, true, false, cond, _||_, true≢false}
 use native.Mathlib.Omega.{arith}
-use lib.Dec.{ltb}
-use borrow.Author.Tests.{ltb-true, ltb-false}
+use lib.Dec.{eqb, ltb}
+use borrow.Author.Tests.{ltb-true, ltb-false, eq-eqb}
 use Rattle.code.specs.Rows.{rowAt}
-use Rattle.code.specs.Kinds.{kindOf, strikes, dependent}
+use Rattle.code.specs.Kinds.{kindAlike, kindOf, strikes, dependent}
 use Rattle.code.proofs.Laws.{alike}
-use Rattle.printer.specs.Printer.{unshifted, hearCase, hearCount, hearKind, advanced}
+use Rattle.printer.specs.Printer.{unshifted, hearCase, hearCount, hearKind, advanced, from}
 use Rattle.stop.specs.Names.{Case, Letters, Figures, Kind, Still, Space, Return, Shift, Char, Printer, Known, Spot, At, From, Watch, Verdict}
 use Rattle.stop.specs.Names.known
 use Rattle.stop.specs.Stop.{clip, hearStop}
 use Rattle.stop.specs.Watch.{shownBy, fellAfter, within, moved, blurred, spotChar, watchKind, watch}
 use Rattle.stop.specs.Verdict.{ownChar, own, signAs, meantBy, struckBy}
+use Rattle.stop.specs.Sheet.{start}
 use Rattle.stop.specs.Fits.{FitsCase, FitsSpot, FitsSign, sendCase, Fits, Claims}
 
 -- The place.
@@ -126,3 +127,29 @@ own-true Space f = tt
 own-true Return f = tt
 own-true (Shift to) f = tt
 own-true {w} {p} {s} (Char bell) f = own-char bell (w .fell) (w .meant) (p .case) s (f .meant) (f .shown)
+
+-- The start.
+
+-- what is said of the start fits every printer and sender of which it is true
+pub start-fits : (k : Known) (spot : Spot) (stop : ℕ) (a b : Bool) (case : Case) (m : ℕ) → FitsCase k case → FitsSpot spot m → m ≤ stop → Fits (start k spot stop a b .watch) (from case m a b) case
+start-fits k spot stop a b case m f e h = record { meant = f; shown = f; spot = placed spot e; short = h; space = refl; return = refl }
+  where
+    placed : (spot : Spot) → FitsSpot spot m → FitsSpot (within stop spot) m
+    placed (At n) e = omega arith
+    placed (From n) e = cut stop n m (omega arith) h
+
+-- a turned character is another one than was meant
+
+alike-not : (x : ℕ) → dependent (kindAlike x) ≡ false
+alike-not x = go (eqb x 32) (eqb x 13) (eqb x 14) (eqb x 15)
+  where
+    go : (p q r t : Bool) → dependent (cond p Space (cond q Return (cond r (Shift Figures) (cond t (Shift Letters) Still)))) ≡ false
+    go true q r t = refl
+    go false true r t = refl
+    go false false true t = refl
+    go false false false true = refl
+    go false false false false = refl
+
+pub turned-differs : (c : ℕ) (bell : Bool) → kindOf c ≡ Char bell → rowAt Letters c ≡ rowAt Figures c → ⊥
+unfolding kindOf
+turned-differs c bell e s = true≢false (sym (ap dependent e) ∙ rw (eq-eqb _ _ s) (alike-not (rowAt Letters c)))

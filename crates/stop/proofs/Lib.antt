@@ -1,3 +1,4 @@
 pub mod Stop
 pub mod Once
 pub mod Fits
+pub mod Struck

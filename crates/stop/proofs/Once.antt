@@ -34,7 +34,7 @@ left p (Shift to) h = refl
 left p (Char bell) h = refl
 
 -- a mark and the rest of the sheet
-sheet-times : (stop n : ℕ) (p : Printer) (c : ℕ) (cs : List ℕ) → times n (sheetStop stop p (c ∷ cs)) ≡ hits n (landing (moves (p .case) (kindOf c)) (p .count)) + times n (sheetStop stop (hearStop stop p c) cs)
+pub sheet-times : (stop n : ℕ) (p : Printer) (c : ℕ) (cs : List ℕ) → times n (sheetStop stop p (c ∷ cs)) ≡ hits n (landing (moves (p .case) (kindOf c)) (p .count)) + times n (sheetStop stop (hearStop stop p c) cs)
 sheet-times stop n p c cs =
     let a = times-append n (prints p c) (sheetStop stop (hearStop stop p c) cs) in
     let b = struck n (p .count) (p .case) (kindOf c) c in

@@ -5,3 +5,4 @@ pub mod Verdict
 pub mod Line
 pub mod Sheet
 pub mod Fits
+pub mod Struck
