@@ -85,6 +85,7 @@ hit-cases P n was w k hit none = go (lands w k) refl
     there : (m : ℕ) (b : Bool) → lands w k ≡ There m → P (cond b 1 0) (cond b (standAfter was (own w k)) was)
     there m true e = hit (numberOf (own w k)) (single-lands w k m e)
     there m false e = none
+
     go : (x : Landing) → lands w k ≡ x → P (landsAt n x) (standAt n x was (own w k))
     go Nowhere e = none
     go (There m) e = there m (eqb m n) e
@@ -145,6 +146,7 @@ module _ (n : ℕ) (w : Watch) (l : Line) (cs : List ℕ) (h : n < length (l .st
     where
       three : standsAt n w 0 cs ≡ 3
       three = sym from-bare ∙ o
+
       go : (a b : Bool) → eqb (struckAt n w cs) 0 ≡ a → eqb (struckAt n w cs) 1 ≡ b → 2 ≤ struckAt n w cs
       go true b e f = let d : _≡_ {A = ℕ} 0 3 = sym (unmarked n 0 w cs (eqb-true _ _ e)) ∙ three in absurd (omega arith)
       go false true e f = absurd (true≢false (sym (just-once n w cs (eqb-true _ _ f)) ∙ rw three))

@@ -1,10 +1,10 @@
 -- The words of a record: codes in decimal, with white space between. On a log sheet the word `line` stands before them, and
 -- `host` ends them.
 use Prim.Native.Nat.{ℕ, min, _+_, _-_, _*_}
-use mathlib.Core.Bool.{Bool, true, false, cond, _&&_, _||_}
-use lib.Dec.{eqb, ltb, leb}
+use mathlib.Core.Bool.{Bool, true, false, cond, _||_}
+use lib.Dec.{eqb, ltb}
 use lib.ListN.{getD, set, replicate}
-use mathlib.Core.List.{List}
+use mathlib.Core.List.{List, [], _∷_}
 use Rattle.words.specs.Names.{Phase, Start, Bare, Sheet, Ended, Word, Item, Reader, Read}
 use Rattle.words.specs.Names.word
 use Rattle.words.specs.Names.item
@@ -13,24 +13,26 @@ use Rattle.words.specs.Names.item
 abbrev pub white : ℕ → Bool
 white b = eqb b 32 || eqb b 10 || eqb b 9 || eqb b 13
 
-abbrev pub digit : ℕ → Bool
-digit b = leb 48 b && leb b 57
+-- the value of a decimal digit, 10 where it is none
+abbrev pub value : ℕ → ℕ
+value x = cond (ltb x 48) 10 (cond (ltb x 58) (x - 48) 10)
 
 -- a number of one or two digits is a code up to 31
-abbrev pub oneDigit : ℕ → Word
-oneDigit x = cond (digit x) (word.Code (x - 48)) word.Other
-
 abbrev pub coded : ℕ → Word
-coded n = cond (leb n 31) (word.Code n) word.Other
+coded n = cond (ltb n 32) (word.Code n) word.Other
+
+abbrev pub oneDigit : ℕ → Word
+oneDigit x = cond (ltb (value x) 10) (word.Code (value x)) word.Other
 
 abbrev pub twoDigits : ℕ → ℕ → Word
-twoDigits x y = cond (digit x && digit y) (coded ((x - 48) * 10 + (y - 48))) word.Other
+twoDigits x y = cond (ltb (value x) 10) (cond (ltb (value y) 10) (coded (value x * 10 + value y)) word.Other) word.Other
+
+abbrev pub isNamed : ℕ → ℕ → ℕ → ℕ → List ℕ → Bool
+isNamed a b c d name = cond (eqb a (getD name 0 0)) (cond (eqb b (getD name 1 0)) (cond (eqb c (getD name 2 0)) (eqb d (getD name 3 0)) false) false) false
 
 -- `line` is 108 105 110 101, and `host` is 104 111 115 116
 abbrev pub named : ℕ → ℕ → ℕ → ℕ → Word
-named a b c d =
-    cond (eqb a 108 && eqb b 105 && eqb c 110 && eqb d 101) word.Line
-    (cond (eqb a 104 && eqb b 111 && eqb c 115 && eqb d 116) word.Host word.Other)
+named a b c d = cond (isNamed a b c d (108 ∷ 105 ∷ 110 ∷ 101 ∷ [])) word.Line (cond (isNamed a b c d (104 ∷ 111 ∷ 115 ∷ 116 ∷ [])) word.Host word.Other)
 
 abbrev pub wordOf : ℕ → List ℕ → Word
 wordOf size held =
@@ -69,18 +71,25 @@ phaseAfter Ended x = Ended
 abbrev pub fresh : Reader
 fresh = record { held = replicate 16 0; size = 0; place = 1; phase = Start }
 
--- a word that is held is read at the white space after it; its bytes stay held, for a message
-abbrev pub ended : Reader → Read
-ended r =
-    record {
-      reader = record { held = r .held; size = r .size; place = r .place; phase = phaseAfter (r .phase) (wordOf (r .size) (r .held)) };
-      item = itemAt (r .phase) (wordOf (r .size) (r .held))
-    }
-
 -- the next word
-abbrev pub next : Reader → Reader
-next r = record { held = r .held; size = 0; place = min 0xffff_ffff_ffff_ffff (r .place + 1); phase = r .phase }
+abbrev pub next : Reader → Phase → Reader
+next r phase = record { held = r .held; size = 0; place = min 0xffff_ffff_ffff_ffff (r .place + 1); phase = phase }
 
--- one byte more of a word; past 16 only the count goes on, to 17
+-- a word is read at the white space after it; one that is bad stays held
+abbrev pub settled : Item → Reader → Phase → Read
+settled item.Bad r phase = record { reader = r; item = item.Bad }
+settled item.Nothing r phase = record { reader = next r phase; item = item.Nothing }
+settled (item.Code c) r phase = record { reader = next r phase; item = item.Code c }
+
+abbrev pub waiting : Reader → Read
+waiting r = record { reader = r; item = item.Nothing }
+
+abbrev pub finish : Reader → Read
+finish r = cond (eqb (r .size) 0) (waiting r) (settled (itemAt (r .phase) (wordOf (r .size) (r .held))) r (phaseAfter (r .phase) (wordOf (r .size) (r .held))))
+
+-- one byte more of a word; past 16 they are only counted, up to 17
 abbrev pub more : Reader → ℕ → Reader
-more r b = record { held = set (r .held) (r .size) b; size = min 17 (r .size + 1); place = r .place; phase = r .phase }
+more r b = record { held = cond (ltb (r .size) 16) (set (r .held) (r .size) b) (r .held); size = min 17 (r .size + 1); place = r .place; phase = r .phase }
+
+abbrev pub read : Reader → ℕ → Read
+read r b = cond (white b) (finish r) (waiting (more r b))
