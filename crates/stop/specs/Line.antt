@@ -48,6 +48,14 @@ final l Nowhere v = v
 final l (There n) v = finalAt (getD (l .stand) n 0) (l .strays) v
 final l (Somewhere n) v = verdict.Unknown
 
+-- how a place stands in the end, by number; 0 where nothing was struck
+abbrev pub standing : ℕ → ℕ → ℕ
+standing strays stand = cond (eqb stand 0) 0 (cond (eqb stand 3) 3 (cond (eqb strays 0) stand 4))
+
+abbrev pub standings : ℕ → List ℕ → List ℕ
+standings strays [] = []
+standings strays (x ∷ xs) = standing strays x ∷ standings strays xs
+
 -- how many places stand so
 abbrev pub countOf : ℕ → List ℕ → ℕ
 countOf v [] = 0

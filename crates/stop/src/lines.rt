@@ -4,7 +4,7 @@ ghost use Prim.Native.Nat.{_≤_, _-_};
 ghost use Rattle.stop.specs.Names.{There, Somewhere};
 ghost use Rattle.stop.specs.Names.verdict;
 ghost use Rattle.stop.specs.Verdict.{numberOf};
-ghost use Rattle.stop.specs.Line.{plus, bare, inkOf, standAfter, inkAfter, strikeAt, strike, finalAt, final, countOf, alone, none, tallyOf, plusTally};
+ghost use Rattle.stop.specs.Line.{plus, bare, inkOf, standAfter, inkAfter, strikeAt, strike, finalAt, final, standing, standings, countOf, alone, none, tallyOf, plusTally};
 use crate::Landing;
 use crate::Line;
 use crate::Sign;
@@ -148,6 +148,32 @@ pub fn last_verdict(l: Line, lands: Landing, v: Verdict) -> Verdict
         }
         Landing::Somewhere(_) => Verdict::Unknown,
     }
+}
+
+// How a place stands in the end, by number; 0 where nothing was struck.
+fn standing(strays: u64, stand: u8) -> u8
+    ensures { λ r. ⌜ r ≡ standing strays stand ⌝ }
+{
+    if stand == 0 {
+        return 0;
+    }
+    if stand == 3 {
+        return 3;
+    }
+    if strays == 0 { stand } else { 4 }
+}
+
+// How each place stands in the end.
+pub fn standings(strays: u64, stand: [u8; 256]) -> [u8; 256]
+    ensures { λ r. ⌜ r ≡ standings strays stand ⌝ }
+{
+    let mut r = [0u8; 256];
+    let mut i = 0;
+    while i < 256 {
+        r[i] = standing(strays, stand[i]);
+        i += 1;
+    }
+    r
 }
 
 // How many places stand so.
