@@ -1,0 +1,52 @@
+-- `paper::options::number_at` is safe and ends. The invariant: the place is within the bytes.
+-- Assumes nothing.
+use Prim.Native.Nat.{_≤_, _<_, _+_, _-_}
+use lib.ListN.{length}
+use borrow.Author.Needs.{needs}
+use Rattle.paper.proofs.options.number_at.Statement.{statement}
+use Rattle.paper.proofs.options.number_at.Tie as tie
+
+abbrev Inv-loop : tie.InvT-loop
+Inv-loop s from n₀ i₀ n i = i ≤ length s
+
+abbrev μ-loop : tie.MeasureT-loop
+μ-loop s from n₀ i₀ n i = length s - i
+
+returns : tie.Need-returns Inv-loop μ-loop
+returns c = search needs
+
+loop-holds : tie.Need-loop-holds Inv-loop μ-loop
+loop-holds c = search needs
+
+shared-slice-read-with-digit : tie.Need-shared-slice-read-with-digit Inv-loop μ-loop
+shared-slice-read-with-digit c = search needs
+
+with-digit-requires : tie.Need-with-digit-requires Inv-loop μ-loop
+with-digit-requires c κs = search needs
+
+add-i : tie.Need-add-i Inv-loop μ-loop
+add-i c = search needs
+
+loop-less : tie.Need-loop-less Inv-loop μ-loop
+loop-less c = search needs
+
+loop-again : tie.Need-loop-again Inv-loop μ-loop
+loop-again c = search needs
+
+returns-2 : tie.Need-returns-2 Inv-loop μ-loop
+returns-2 c = search needs
+
+pub number-at-spec : {M : Type 1} → statement M
+number-at-spec =
+    tie.close
+    (tie.spec
+    Inv-loop
+    μ-loop
+    returns
+    loop-holds
+    shared-slice-read-with-digit
+    with-digit-requires
+    add-i
+    loop-less
+    loop-again
+    returns-2)
