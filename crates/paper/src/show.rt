@@ -131,8 +131,10 @@ fn print_kept(line: Line, number: u64) {
     io::print_decimal(STDOUT_FILENO, number);
     if has(standings, 1) {
         print_named(b": kept", standings, 1);
-    } else {
+    } else if is_marked(line) {
         io::write_all(STDOUT_FILENO, b": kept none");
+    } else {
+        io::write_all(STDOUT_FILENO, b": nothing struck");
     }
     print_named(b"; turned", standings, 2);
     print_named(b"; struck over", standings, 3);
@@ -153,9 +155,11 @@ pub fn is_marked(line: Line) -> bool {
 pub fn print_line(line: Line, number: u64) {
     let ink = line.ink;
     let drift = line.drift;
-    print_row(b"|", ink);
     if line.strays > 0 {
         print_row(b"~", drift);
+    }
+    if line.landed > 0 || line.strays == 0 {
+        print_row(b"|", ink);
     }
     print_kept(line, number);
 }

@@ -22,17 +22,19 @@ abbrev pub inkOf : Sign → ℕ
 inkOf sign.Unknown = 126
 inkOf (sign.Is x) = x
 
--- the first strike stands as it is; with another it is struck over, and shown as `*` (42)
+-- the first strike stands as it is; with another it is struck over
 abbrev pub standAfter : ℕ → Verdict → ℕ
 standAfter was v = cond (eqb was 0) (numberOf v) 3
 
-abbrev pub inkAfter : ℕ → ℕ → ℕ
-inkAfter was ink = cond (eqb was 0) ink 42
+-- what is seen of one character, or of more
+abbrev pub seen : ℕ → ℕ → ℕ → ℕ
+seen was ink more = cond (eqb was 0) ink more
 
+-- struck over is shown as `*` (42), and two that may be at one place as `~`
 abbrev pub strikeAt : Landing → Line → ℕ → Verdict → Line
 strikeAt Nowhere l ink v = l
-strikeAt (There n) l ink v = record { ink = set (l .ink) n (inkAfter (getD (l .stand) n 0) ink); stand = set (l .stand) n (standAfter (getD (l .stand) n 0) v); drift = l .drift; landed = plus (l .landed) 1; strays = l .strays }
-strikeAt (Somewhere n) l ink v = record { ink = l .ink; stand = l .stand; drift = set (l .drift) n ink; landed = l .landed; strays = plus (l .strays) 1 }
+strikeAt (There n) l ink v = record { ink = set (l .ink) n (seen (getD (l .stand) n 0) ink 42); stand = set (l .stand) n (standAfter (getD (l .stand) n 0) v); drift = l .drift; landed = plus (l .landed) 1; strays = l .strays }
+strikeAt (Somewhere n) l ink v = record { ink = l .ink; stand = l .stand; drift = set (l .drift) n (seen (getD (l .drift) n 0) ink 126); landed = l .landed; strays = plus (l .strays) 1 }
 
 abbrev pub strike : Line → Strike → Line
 strike l s = strikeAt (s .lands) l (inkOf (s .sign)) (s .own)

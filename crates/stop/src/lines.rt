@@ -4,7 +4,7 @@ ghost use Prim.Native.Nat.{_≤_, _-_};
 ghost use Rattle.stop.specs.Names.{There, Somewhere};
 ghost use Rattle.stop.specs.Names.verdict;
 ghost use Rattle.stop.specs.Verdict.{numberOf};
-ghost use Rattle.stop.specs.Line.{plus, bare, inkOf, standAfter, inkAfter, strikeAt, strike, finalAt, final, standing, standings, countOf, alone, none, tallyOf, plusTally};
+ghost use Rattle.stop.specs.Line.{plus, bare, inkOf, standAfter, seen, strikeAt, strike, finalAt, final, standing, standings, countOf, alone, none, tallyOf, plusTally};
 use crate::Landing;
 use crate::Line;
 use crate::Sign;
@@ -66,11 +66,11 @@ fn stand_after(was: u8, v: Verdict) -> u8
     if was == 0 { number_of(v) } else { 3 }
 }
 
-// What is seen at a place that is struck: `*` where it was struck before.
-fn ink_after(was: u8, ink: u8) -> u8
-    ensures { λ r. ⌜ r ≡ inkAfter was ink ⌝ }
+// What is seen of one character, or of more.
+fn seen(was: u8, ink: u8, more: u8) -> u8
+    ensures { λ r. ⌜ r ≡ seen was ink more ⌝ }
 {
-    if was == 0 { ink } else { b'*' }
+    if was == 0 { ink } else { more }
 }
 
 // The line with a character at a place.
@@ -78,14 +78,14 @@ fn strike_there(l: Line, n: u8, ink: u8, v: Verdict) -> Line
     ensures { λ r. ⌜ r ≡ strikeAt (There n) l ink v ⌝ }
 {
     let i = n as usize;
-    let mut seen = l.ink;
+    let mut row = l.ink;
     let mut stand = l.stand;
     let drift = l.drift;
     let was = stand[i];
-    seen[i] = ink_after(was, ink);
+    row[i] = seen(was, ink, b'*');
     stand[i] = stand_after(was, v);
     Line {
-        ink: seen,
+        ink: row,
         stand,
         drift,
         landed: plus(l.landed, 1),
@@ -98,12 +98,12 @@ fn strike_somewhere(l: Line, n: u8, ink: u8) -> Line
     ensures { λ r. ⌜ r ≡ strikeAt (Somewhere n) l ink verdict.Nothing ⌝ }
 {
     let i = n as usize;
-    let seen = l.ink;
+    let row = l.ink;
     let stand = l.stand;
     let mut drift = l.drift;
-    drift[i] = ink;
+    drift[i] = seen(drift[i], ink, b'~');
     Line {
-        ink: seen,
+        ink: row,
         stand,
         drift,
         landed: l.landed,

@@ -7,11 +7,11 @@ use Rattle.stop.proofs.lines.strike_there.Tie as tie
 array-read-was : tie.Need-array-read-was
 array-read-was c = search needs
 
-ink-after-requires : tie.Need-ink-after-requires
-ink-after-requires c κs = search needs
+seen-requires : tie.Need-seen-requires
+seen-requires c κs = search needs
 
-array-write-seen : tie.Need-array-write-seen
-array-write-seen c = search needs
+array-write-row : tie.Need-array-write-row
+array-write-row c = search needs
 
 stand-after-requires : tie.Need-stand-after-requires
 stand-after-requires c κs = search needs
@@ -23,15 +23,15 @@ plus-requires : tie.Need-plus-requires
 plus-requires c κs = search needs
 
 returns : tie.Need-returns
-returns c = simp (c .plus .ensures, c .before .stand-after .ensures, c .before .before .ink-after .ensures)
+returns c = simp (c .plus .ensures, c .before .stand-after .ensures, c .before .before .seen .ensures)
 
 pub strike-there-spec : {M : Type 1} → statement M
 strike-there-spec =
     tie.close
     (tie.spec
     array-read-was
-    ink-after-requires
-    array-write-seen
+    seen-requires
+    array-write-row
     stand-after-requires
     array-write-stand
     plus-requires
