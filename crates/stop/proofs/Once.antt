@@ -2,16 +2,17 @@
 -- the stop all lands there.
 -- Assumes nothing.
 use Prim.Native.Nat.{ℕ, _+_, _≤_, _<_, min}
-use mathlib.Core.Path.{_≡_, refl, ap, _∙_}
+use mathlib.Core.Path.{_≡_, refl, sym}
 use mathlib.Core.Bool.{Bool, true, false, cond, true≢false}
 use mathlib.Core.List.{List, [], _∷_, _++_}
 use native.Mathlib.Omega.{arith}
-use lib.Dec.{eqb, lit≤}
-use borrow.Author.Tests.{eqb-true, eqb-false, ne-eqb}
+use lib.Dec.{eqb, ltb}
+use borrow.Author.Tests.{eqb-true, ne-eqb, eq-eqb, ltb-true, ltb-false}
 use Rattle.code.specs.Kinds.{kindOf, moves}
-use Rattle.printer.specs.Printer.{hearCount, advanced, landing, markAs, printsAs, prints}
+use Rattle.printer.specs.Printer.{hear, hearCount, advanced, landing, markAs, printsAs, prints, sheet}
 use Rattle.stop.specs.Names.{Kind, Still, Space, Return, Shift, Char, Printer, Case, Mark}
-use Rattle.stop.specs.Stop.{clip, hearStop, sheetStop, hits, times, returning, NoReturn}
+use Rattle.stop.specs.Stop.{clip, hearStop, sheetStop, Within, hits, times, returning, NoReturn}
+use Rattle.stop.proofs.Stop.{same-prints}
 
 times-append : (n : ℕ) (xs ys : List Mark) → times n (xs ++ ys) ≡ times n xs + times n ys
 times-append n [] ys = omega arith
@@ -85,3 +86,48 @@ later stop n p (c ∷ cs) w r h =
     let q = missed n (p .count) (λ s. h (omega arith)) (moves (p .case) (kindOf c)) in
     let rest = later stop n (hearStop stop p c) cs (omega (arith, e, g)) (r .1) h in
     omega (arith, sheet-times stop n p c cs, q, rest)
+
+-- The printer without a stop.
+
+free-times : (n : ℕ) (p : Printer) (c : ℕ) (cs : List ℕ) → times n (sheet p (c ∷ cs)) ≡ hits n (landing (moves (p .case) (kindOf c)) (p .count)) + times n (sheet (hear p c) cs)
+free-times n p c cs =
+    let a = times-append n (prints p c) (sheet (hear p c) cs) in
+    let b = struck n (p .count) (p .case) (kindOf c) c in
+    omega (arith, a, b)
+
+next-count : (p : Printer) (k : Kind) (stop : ℕ) → p .count ≤ stop → (moves (p .case) k ≡ true → p .count < stop) → hearCount p k ≤ stop
+next-count p k stop h m = go (returning k) refl
+  where
+    moved : (b : Bool) → moves (p .case) k ≡ b → advanced b (p .count) ≤ stop
+    moved true e = omega (arith, m e)
+    moved false e = h
+
+    home : (k : Kind) → returning k ≡ true → hearCount p k ≤ stop
+    home Still e = absurd (true≢false (sym e))
+    home Space e = absurd (true≢false (sym e))
+    home Return e = omega arith
+    home (Shift to) e = absurd (true≢false (sym e))
+    home (Char bell) e = absurd (true≢false (sym e))
+
+    go : (b : Bool) → returning k ≡ b → hearCount p k ≤ stop
+    go true e = home k e
+    go false e = rw (left p k e) (moved (moves (p .case) k) refl)
+
+under-within : (stop : ℕ) (p : Printer) (cs : List ℕ) → p .count ≤ stop → ((n : ℕ) → stop ≤ n → times n (sheet p cs) ≡ 0) → Within stop p cs
+under-within stop p [] h u = h
+under-within stop p (c ∷ cs) h u = (h, under-within stop (hear p c) cs (next-count p (kindOf c) stop h short) (λ n l. omega (arith, free-times n p c cs, u n l)))
+  where
+    here : (b : Bool) → moves (p .case) (kindOf c) ≡ b → b ≡ true → hits (p .count) (landing (moves (p .case) (kindOf c)) (p .count)) ≡ 1
+    here true e t = rw (e, eq-eqb (p .count) (p .count) refl)
+    here false e t = absurd (true≢false (sym t))
+
+    short : moves (p .case) (kindOf c) ≡ true → p .count < stop
+    short e = go (ltb (p .count) stop) refl
+      where
+        go : (b : Bool) → ltb (p .count) stop ≡ b → p .count < stop
+        go true q = ltb-true _ _ q
+        go false q = absurd (omega (arith, free-times (p .count) p c cs, u (p .count) (ltb-false _ _ q), here (moves (p .case) (kindOf c)) refl e))
+
+-- where nothing lands at the stop or past it, the printer with the stop prints as the one without
+pub under-same : (stop : ℕ) (p : Printer) (cs : List ℕ) → p .count ≤ stop → ((n : ℕ) → stop ≤ n → times n (sheet p cs) ≡ 0) → sheetStop stop p cs ≡ sheet p cs
+under-same stop p cs h u = same-prints stop p cs (under-within stop p cs h u)
