@@ -7,17 +7,20 @@ use mathlib.Core.Path.{_≡_, refl, sym, ap, _∙_}
 use mathlib.Core.Bool.{Bool, true, false, cond, _||_, true≢false}
 use native.Mathlib.Omega.{arith}
 use lib.Dec.{eqb, ltb}
+use lib.ListN.{getD}
 use borrow.Author.Tests.{ltb-true, ltb-false, eq-eqb}
 use Rattle.code.specs.Rows.{rowAt}
 use Rattle.code.specs.Kinds.{kindAlike, kindOf, strikes, dependent}
 use Rattle.code.proofs.Laws.{alike}
 use Rattle.printer.specs.Printer.{unshifted, hearCase, hearCount, hearKind, advanced, from}
-use Rattle.stop.specs.Names.{Case, Letters, Figures, Kind, Still, Space, Return, Shift, Char, Printer, Known, Spot, At, From, Watch, Verdict}
+use Rattle.stop.specs.Names.{Case, Letters, Figures, Kind, Still, Space, Return, Shift, Char, Printer, Known, Spot, At, From, Landing, Nowhere, There, Somewhere, Watch, Verdict, Line}
 use Rattle.stop.specs.Names.known
+use Rattle.stop.specs.Names.verdict
 use Rattle.stop.specs.Stop.{clip, hearStop}
 use Rattle.stop.specs.Watch.{shownBy, fellAfter, within, moved, blurred, spotChar, watchKind, watch}
-use Rattle.stop.specs.Verdict.{ownChar, own, signAs, meantBy, struckBy}
-use Rattle.stop.specs.Sheet.{start}
+use Rattle.stop.specs.Verdict.{ownChar, own, lands, signAs, meantBy, struckBy}
+use Rattle.stop.specs.Line.{final}
+use Rattle.stop.specs.Sheet.{start, judgement}
 use Rattle.stop.specs.Fits.{FitsCase, FitsSpot, FitsSign, sendCase, Fits, Claims}
 
 -- The place.
@@ -127,6 +130,20 @@ own-true Space f = tt
 own-true Return f = tt
 own-true (Shift to) f = tt
 own-true {w} {p} {s} (Char bell) f = own-char bell (w .fell) (w .meant) (p .case) s (f .meant) (f .shown)
+
+final-claims : (x : Landing) (l : Line) (v : Verdict) (p s : Case) → Claims v p s → Claims (final l x v) p s
+final-claims Nowhere l v p s h = h
+final-claims (There n) l v p s h = go (eqb (getD (l .stand) n 0) 3) (eqb (l .strays) 0)
+  where
+    go : (a b : Bool) → Claims (cond a verdict.Over (cond b v verdict.Unknown)) p s
+    go true b = tt
+    go false true = h
+    go false false = tt
+final-claims (Somewhere n) l v p s h = tt
+
+-- the same of the judgement in the end, on whatever line
+pub verdict-true : {w : Watch} {p : Printer} {s : Case} (l : Line) (c : ℕ) → Fits w p s → Claims (judgement w l c .verdict) (p .case) s
+verdict-true {w} {p} {s} l c f = final-claims (lands w (kindOf c)) l (own w (kindOf c)) (p .case) s (own-true (kindOf c) f)
 
 -- The start.
 

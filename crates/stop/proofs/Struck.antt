@@ -45,7 +45,7 @@ strike-at n Nowhere l ink v h = refl
 strike-at n (There m) l ink v h = set-stand (l .stand) m n (standAfter (getD (l .stand) m 0) v) h ∙ same-there (l .stand) m n v
 strike-at n (Somewhere m) l ink v h = refl
 
-strike-length : (x : Landing) (l : Line) (ink : ℕ) (v : Verdict) → length (strikeAt x l ink v .stand) ≡ length (l .stand)
+pub strike-length : (x : Landing) (l : Line) (ink : ℕ) (v : Verdict) → length (strikeAt x l ink v .stand) ≡ length (l .stand)
 strike-length Nowhere l ink v = refl
 strike-length (There m) l ink v = simp length-set
 strike-length (Somewhere m) l ink v = refl
@@ -61,7 +61,7 @@ place-stands n w l (c ∷ cs) h =
 -- How often it is struck.
 
 -- what is struck at a place is judged by itself: kept, turned or unknown
-abbrev single : ℕ → Bool
+abbrev pub single : ℕ → Bool
 single x = eqb x 1 || eqb x 2 || eqb x 4
 
 single-own : (bell fell : Bool) (meant : Known) (s : Spot) (m : ℕ) → landsChar bell (shownBy fell meant) s ≡ There m → single (numberOf (ownChar bell meant fell)) ≡ true
@@ -71,7 +71,7 @@ single-own bell true (known.Is Figures) s m e = refl
 single-own false false (known.Is Figures) s m e = refl
 single-own true false (known.Is Figures) s m e = let z : true ≡ false = cc in absurd (true≢false z)
 
-single-lands : (w : Watch) (k : Kind) (m : ℕ) → lands w k ≡ There m → single (numberOf (own w k)) ≡ true
+pub single-lands : (w : Watch) (k : Kind) (m : ℕ) → lands w k ≡ There m → single (numberOf (own w k)) ≡ true
 single-lands w Still m e = let z : true ≡ false = cc in absurd (true≢false z)
 single-lands w Space m e = let z : true ≡ false = cc in absurd (true≢false z)
 single-lands w Return m e = let z : true ≡ false = cc in absurd (true≢false z)
@@ -91,7 +91,7 @@ hit-cases P n was w k hit none = go (lands w k) refl
     go (There m) e = there m (eqb m n) e
     go (Somewhere m) e = none
 
-spoiled : (n : ℕ) (w : Watch) (cs : List ℕ) → standsAt n w 3 cs ≡ 3
+pub spoiled : (n : ℕ) (w : Watch) (cs : List ℕ) → standsAt n w 3 cs ≡ 3
 spoiled n w [] = refl
 spoiled n w (c ∷ cs) =
     let rest = spoiled n (watch w c) cs in
@@ -100,7 +100,7 @@ spoiled n w (c ∷ cs) =
 single-bare : (x : ℕ) → single x ≡ true → eqb x 0 ≡ false
 single-bare x h = ne-eqb x 0 (λ e. true≢false (sym (rw e at h)))
 
-marked : (n was : ℕ) (w : Watch) (cs : List ℕ) → single was ≡ true → 1 ≤ struckAt n w cs → standsAt n w was cs ≡ 3
+pub marked : (n was : ℕ) (w : Watch) (cs : List ℕ) → single was ≡ true → 1 ≤ struckAt n w cs → standsAt n w was cs ≡ 3
 marked n was w [] s h = absurd (omega arith)
 marked n was w (c ∷ cs) s h =
     hit-cases (λ t x. 1 ≤ t + struckAt n (watch w c) cs → standsAt n (watch w c) x cs ≡ 3) n was w (kindOf c)
@@ -108,7 +108,7 @@ marked n was w (c ∷ cs) s h =
     (λ l. marked n was (watch w c) cs s (omega arith))
     h
 
-unmarked : (n was : ℕ) (w : Watch) (cs : List ℕ) → struckAt n w cs ≡ 0 → standsAt n w was cs ≡ was
+pub unmarked : (n was : ℕ) (w : Watch) (cs : List ℕ) → struckAt n w cs ≡ 0 → standsAt n w was cs ≡ was
 unmarked n was w [] h = refl
 unmarked n was w (c ∷ cs) h =
     hit-cases (λ t x. t + struckAt n (watch w c) cs ≡ 0 → standsAt n (watch w c) x cs ≡ was) n was w (kindOf c)
@@ -116,7 +116,7 @@ unmarked n was w (c ∷ cs) h =
     (λ l. unmarked n was (watch w c) cs (omega arith))
     h
 
-twice : (n : ℕ) (w : Watch) (cs : List ℕ) → 2 ≤ struckAt n w cs → standsAt n w 0 cs ≡ 3
+pub twice : (n : ℕ) (w : Watch) (cs : List ℕ) → 2 ≤ struckAt n w cs → standsAt n w 0 cs ≡ 3
 twice n w [] h = absurd (omega arith)
 twice n w (c ∷ cs) h =
     hit-cases (λ t x. 2 ≤ t + struckAt n (watch w c) cs → standsAt n (watch w c) x cs ≡ 3) n 0 w (kindOf c)
