@@ -3,6 +3,8 @@ use code::Case;
 use libc::STDOUT_FILENO;
 use stop::Known;
 use stop::Spot;
+use words::Setting;
+use words::arguments;
 
 // What the arguments say; not good where one of them is none.
 pub struct Options {
@@ -12,70 +14,6 @@ pub struct Options {
     pub onspace: bool,
     pub onreturn: bool,
     pub good: bool,
-}
-
-// A number up to 255, or none.
-enum Number {
-    Is(u8),
-    Nothing,
-}
-
-// The bytes are those of the word.
-fn is_word(s: &[u8], w: &[u8]) -> bool {
-    if s.len() != w.len() {
-        return false;
-    }
-    starts(s, w)
-}
-
-// The bytes start with the word.
-fn starts(s: &[u8], w: &[u8]) -> bool {
-    let mut i = 0;
-    while i < w.len() {
-        if s.len() <= i {
-            return false;
-        }
-        if s[i] != w[i] {
-            return false;
-        }
-        i += 1;
-    }
-    true
-}
-
-// A number with one digit more, or none.
-fn with_digit(n: Number, b: u8) -> Number {
-    if b < b'0' {
-        return Number::Nothing;
-    }
-    if b > b'9' {
-        return Number::Nothing;
-    }
-    match n {
-        Number::Nothing => Number::Nothing,
-        Number::Is(x) => {
-            let y = (x as u16) * 10 + ((b - b'0') as u16);
-            if y < 256 {
-                Number::Is((y % 256) as u8)
-            } else {
-                Number::Nothing
-            }
-        }
-    }
-}
-
-// The decimal number from a place to the end.
-fn number_at(s: &[u8], from: usize) -> Number {
-    if s.len() <= from {
-        return Number::Nothing;
-    }
-    let mut n = Number::Is(0);
-    let mut i = from;
-    while i < s.len() {
-        n = with_digit(n, s[i]);
-        i += 1;
-    }
-    n
 }
 
 // The options with another case.
@@ -111,77 +49,42 @@ fn refused(o: Options) -> Options {
     next
 }
 
-// The options with an argument that names the case.
-fn named_case(o: Options, s: &[u8]) -> Options {
-    if is_word(s, b"case=letters") {
-        return with_case(o, Known::Is(Case::Letters));
-    }
-    if is_word(s, b"case=figures") {
-        return with_case(o, Known::Is(Case::Figures));
-    }
-    if is_word(s, b"case=unknown") {
-        return with_case(o, Known::Unknown);
-    }
-    refused(o)
-}
-
-// The options with an argument that names the place.
-fn named_place(o: Options, s: &[u8]) -> Options {
-    if is_word(s, b"place=unknown") {
-        return with_spot(o, Spot::From(0));
-    }
-    match number_at(s, 6) {
-        Number::Is(n) => with_spot(o, Spot::At(n)),
-        Number::Nothing => refused(o),
-    }
-}
-
-// The options with an argument that names the stop.
-fn named_stop(o: Options, s: &[u8]) -> Options {
-    match number_at(s, 5) {
-        Number::Is(n) => {
-            let mut next = o;
-            next.stop = n;
-            next
-        }
-        Number::Nothing => refused(o),
-    }
-}
-
-// The options with an argument that says on what the printer unshifts.
-fn named_unshift(o: Options, s: &[u8]) -> Options {
+// The options of a printer that unshifts on a space, or not.
+fn with_space(o: Options, on: bool) -> Options {
     let mut next = o;
-    if is_word(s, b"space=unshifts") {
-        next.onspace = true;
-        return next;
-    }
-    if is_word(s, b"space=keeps") {
-        next.onspace = false;
-        return next;
-    }
-    if is_word(s, b"return=unshifts") {
-        next.onreturn = true;
-        return next;
-    }
-    if is_word(s, b"return=keeps") {
-        next.onreturn = false;
-        return next;
-    }
-    refused(o)
+    next.onspace = on;
+    next
+}
+
+// The options of a printer that unshifts on a return, or not.
+fn with_return(o: Options, on: bool) -> Options {
+    let mut next = o;
+    next.onreturn = on;
+    next
+}
+
+// The options of a printer with this stop.
+fn with_stop(o: Options, n: u8) -> Options {
+    let mut next = o;
+    next.stop = n;
+    next
 }
 
 // The options with one argument more.
 fn with_argument(o: Options, s: &[u8]) -> Options {
-    if starts(s, b"case=") {
-        return named_case(o, s);
+    match arguments::setting(s) {
+        Setting::Stop(n) => with_stop(o, n),
+        Setting::Place(n) => with_spot(o, Spot::At(n)),
+        Setting::PlaceUnknown => with_spot(o, Spot::From(0)),
+        Setting::Letters => with_case(o, Known::Is(Case::Letters)),
+        Setting::Figures => with_case(o, Known::Is(Case::Figures)),
+        Setting::CaseUnknown => with_case(o, Known::Unknown),
+        Setting::SpaceUnshifts => with_space(o, true),
+        Setting::SpaceKeeps => with_space(o, false),
+        Setting::ReturnUnshifts => with_return(o, true),
+        Setting::ReturnKeeps => with_return(o, false),
+        Setting::Bad => refused(o),
     }
-    if starts(s, b"place=") {
-        return named_place(o, s);
-    }
-    if starts(s, b"stop=") {
-        return named_stop(o, s);
-    }
-    named_unshift(o, s)
 }
 
 // Says which argument is none, and what there is.

@@ -1,5 +1,6 @@
 // The sheet: a record's codes, taken one at a time and many at a time, and the judgement of each.
 ghost use mathlib.Core.Path.{_≡_};
+ghost use Rattle.stop.specs.Verdict.{answerOf};
 ghost use Rattle.stop.specs.Sheet.{start, feeds, take, step, run, totals, judgement};
 use crate::Answer;
 use crate::Heard;
@@ -15,6 +16,16 @@ use crate::lines;
 use crate::strikes;
 use crate::watches;
 use code::Case;
+
+// The number of an answer.
+pub fn number_of(a: Answer) -> u8
+    ensures { λ r. ⌜ r ≡ answerOf a ⌝ }
+{
+    match a {
+        Answer::Taken => 0,
+        Answer::NoCode => 2,
+    }
+}
 
 // A bare sheet in a printer with this stop, and what is known of the printer.
 pub fn start(case: Known, spot: Spot, stop: u8, onspace: bool, onreturn: bool) -> Sheet

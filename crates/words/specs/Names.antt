@@ -7,3 +7,5 @@ pub use Rattle.words.specs.declared.Item.{Item}
 pub use Rattle.words.specs.declared.Item.the-variants as item
 pub use Rattle.words.specs.declared.Reader.{Reader}
 pub use Rattle.words.specs.declared.Read.{Read}
+pub use Rattle.words.specs.declared.Setting.{Setting}
+pub use Rattle.words.specs.declared.Setting.the-variants as setting

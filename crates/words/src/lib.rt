@@ -1,8 +1,25 @@
-// Reads the words of a record, a byte at a time: codes in decimal with white space between, or a log sheet, where `line` stands
+// Reads the arguments, and the words of a record, a byte at a time: codes in decimal with white space between, or a log sheet, where `line` stands
 // before them and `host` ends them.
 ghost use mathlib.Core.Path.{_≡_};
 ghost use Prim.Native.Nat.{_≤_};
 ghost use Rattle.words.specs.Words.{white, value, oneDigit, twoDigits, isNamed, named, wordOf, itemAt, phaseAfter, fresh, next, settled, finish, more, read};
+
+pub mod arguments;
+
+// What an argument says.
+pub enum Setting {
+    Stop(u8),
+    Place(u8),
+    PlaceUnknown,
+    Letters,
+    Figures,
+    CaseUnknown,
+    SpaceUnshifts,
+    SpaceKeeps,
+    ReturnUnshifts,
+    ReturnKeeps,
+    Bad,
+}
 
 // How far the record was read.
 pub enum Phase {
