@@ -12,12 +12,12 @@ use borrow.Author.Tests.{ltb-true, ltb-false, eq-eqb}
 use Rattle.code.specs.Rows.{rowAt}
 use Rattle.code.specs.Kinds.{kindAlike, kindOf, strikes, dependent}
 use Rattle.code.proofs.Laws.{alike}
-use Rattle.printer.specs.Printer.{unshifted, hearCase, hearCount, hearKind, advanced, from}
+use Rattle.printer.specs.Printer.{unshifted, hearKind, advanced, from}
 use Rattle.stop.specs.Names.{Case, Letters, Figures, Kind, Still, Space, Return, Shift, Char, Printer, Known, Spot, At, From, Landing, Nowhere, There, Somewhere, Watch, Verdict, Line}
 use Rattle.stop.specs.Names.known
 use Rattle.stop.specs.Names.verdict
 use Rattle.stop.specs.Stop.{clip, hearStop}
-use Rattle.stop.specs.Watch.{shownBy, fellAfter, within, moved, blurred, spotChar, watchKind, watch}
+use Rattle.stop.specs.Watch.{shownBy, within, moved, blurred, spotChar, watchKind, watch}
 use Rattle.stop.specs.Verdict.{ownChar, own, lands, signAs, meantBy, struckBy}
 use Rattle.stop.specs.Line.{final}
 use Rattle.stop.specs.Sheet.{start, judgement}

@@ -2,7 +2,7 @@
 -- before the stop is struck over.
 -- Assumes nothing.
 use Prim.Native.Nat.{ℕ, _+_, _≤_, _<_}
-use mathlib.Core.Path.{_≡_, refl, ap, sym, _∙_}
+use mathlib.Core.Path.{_≡_, refl, sym, _∙_}
 use mathlib.Core.Bool.{Bool, true, false, cond, _||_, true≢false}
 use mathlib.Core.List.{List, [], _∷_}
 use native.Mathlib.Omega.{arith}
@@ -14,13 +14,12 @@ use Rattle.code.specs.Kinds.{kindOf, strikes, moves}
 use Rattle.printer.specs.Printer.{landing}
 use Rattle.stop.specs.Names.{Case, Letters, Figures, Kind, Still, Space, Return, Shift, Char, Printer, Known, Spot, At, From, Landing, Nowhere, There, Somewhere, Verdict, Watch, Line}
 use Rattle.stop.specs.Names.known
-use Rattle.stop.specs.Names.verdict
-use Rattle.stop.specs.Stop.{hearStop, sheetStop, hits, times, NoReturn}
+use Rattle.stop.specs.Stop.{sheetStop, hits, times, NoReturn}
 use Rattle.stop.specs.Watch.{shownBy, watch}
 use Rattle.stop.specs.Verdict.{numberOf, ownChar, own, landsChar, lands, strikeOf}
-use Rattle.stop.specs.Line.{bare, inkOf, standAfter, strikeAt, strike}
+use Rattle.stop.specs.Line.{inkOf, standAfter, strikeAt, strike}
 use Rattle.stop.specs.Struck.{lineOf, landsAt, struckAt, standAt, standsAt}
-use Rattle.stop.specs.Fits.{FitsCase, FitsSpot, sendCase, Fits}
+use Rattle.stop.specs.Fits.{FitsCase, FitsSpot, Fits}
 use Rattle.stop.proofs.Fits.{fits}
 use Rattle.stop.proofs.Once.{sheet-times, once}
 

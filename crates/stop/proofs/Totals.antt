@@ -1,7 +1,7 @@
 -- The tally of a line counts its codes' judgements: none is lost, and none is counted twice.
 -- Assumes nothing.
-use Prim.Native.Nat.{ℕ, zero, suc, _+_, _*_, _-_, _≤_, _<_, min}
-use mathlib.Core.Path.{_≡_, refl, ap, sym, _∙_}
+use Prim.Native.Nat.{ℕ, _+_, _*_, _-_, _≤_, _<_}
+use mathlib.Core.Path.{_≡_, refl, sym, _∙_}
 use mathlib.Core.Bool.{Bool, true, false, cond, _||_, true≢false}
 use mathlib.Core.List.{List, [], _∷_}
 use mathlib.Core.Logic.{_⊎_, inl, inr}
@@ -9,7 +9,7 @@ use native.Mathlib.Omega.{arith}
 use native.Mathlib.Nat.{zero-mul, one-mul, mul-zero, add-mul}
 use lib.Dec.{eqb}
 use lib.ListN.{length, getD, getD-replicate}
-use borrow.Author.Tests.{eqb-true, eqb-false, eq-eqb, ne-eqb}
+use borrow.Author.Tests.{eqb-true, eqb-false, eq-eqb}
 use Rattle.code.specs.Kinds.{kindOf}
 use Rattle.stop.specs.Names.{Case, Letters, Figures, Kind, Still, Space, Return, Shift, Char, Printer, Known, Spot, At, From, Landing, Nowhere, There, Somewhere, Verdict, Watch, Line, Tally, Sheet}
 use Rattle.stop.specs.Names.known
@@ -19,7 +19,7 @@ use Rattle.stop.specs.Verdict.{numberOf, ownChar, own, landsChar, lands,
 use Rattle.stop.specs.Line.{plus, bare, inkOf, standAfter, strikeAt, strike, finalAt, final, standing, countOf, alone, tallyBy, tallyOf}
 use Rattle.stop.specs.Sheet.{feeds, take}
 use Rattle.stop.specs.Struck.{NoFeed, takes, watches, lineOf, landsAt, struckAt, standAt, standsAt, judged}
-use Rattle.stop.specs.Fits.{FitsCase, FitsSpot, Fits}
+use Rattle.stop.specs.Fits.{FitsSpot, Fits}
 use Rattle.stop.proofs.Fits.{fits}
 use Rattle.stop.proofs.Struck.{single, single-lands, spoiled, marked, unmarked, twice, place-stands, strike-length}
 use Rattle.stop.proofs.Sums.{sum, one, sum-add, sum-same, sum-none, sum-pick, count-sum}

@@ -1,7 +1,6 @@
 -- What is known fits a printer with a stop and a sender, if it is true of them wherever it says anything.
 use Prim.Native.Nat.{ℕ, _≤_}
 use mathlib.Core.Path.{_≡_}
-use mathlib.Core.Bool.{Bool}
 use Rattle.stop.specs.Names.{Case, Letters, Figures, Kind, Still, Space, Return, Shift, Char, Printer, Known, Spot, At, From, Sign, Verdict, Watch}
 use Rattle.stop.specs.Names.known
 use Rattle.stop.specs.Names.sign

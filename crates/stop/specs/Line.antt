@@ -4,7 +4,7 @@ use Prim.Native.Nat.{ℕ, min, _+_, _-_}
 use mathlib.Core.Bool.{Bool, true, false, cond}
 use mathlib.Core.List.{List, [], _∷_}
 use lib.ListN.{getD, set, replicate}
-use lib.Dec.{eqb, ltb}
+use lib.Dec.{eqb}
 use Rattle.stop.specs.Names.{Landing, Nowhere, There, Somewhere, Sign, Verdict, Strike, Tally, Line}
 use Rattle.stop.specs.Names.sign
 use Rattle.stop.specs.Names.verdict

@@ -1,11 +1,11 @@
 -- The sheet: codes are taken one at a time, and a line feed ends a line of the paper.
 use Prim.Native.Nat.{ℕ, suc}
-use mathlib.Core.Bool.{Bool, true, false, cond}
+use mathlib.Core.Bool.{Bool, true, false}
 use mathlib.Core.List.{List, [], _∷_}
 use lib.Dec.{eqb, ltb}
 use Rattle.code.specs.Rows.{rowAt}
 use Rattle.code.specs.Kinds.{kindOf}
-use Rattle.stop.specs.Names.{Letters, Known, Spot, Watch, Answer, Taken, NoCode, Verdict, Judgement, Tally, Line, Sheet, Heard, Run}
+use Rattle.stop.specs.Names.{Letters, Known, Spot, Watch, Taken, NoCode, Judgement, Tally, Line, Sheet, Heard, Run}
 use Rattle.stop.specs.Watch.{within, watch}
 use Rattle.stop.specs.Verdict.{lands, own, meantBy, struckBy, strikeOf}
 use Rattle.stop.specs.Line.{bare, strike, final, none, tallyOf, plusTally}

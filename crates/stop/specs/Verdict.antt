@@ -3,7 +3,7 @@ use Prim.Native.Nat.{ℕ}
 use mathlib.Core.Bool.{Bool, true, false}
 use Rattle.code.specs.Rows.{rowAt}
 use Rattle.code.specs.Kinds.{kindOf}
-use Rattle.stop.specs.Names.{Case, Letters, Figures, Kind, Still, Space, Return, Shift, Char, Known, Spot, At, From, Landing, Nowhere, There, Somewhere, Sign, Verdict, Answer, Taken, NoCode, Watch, Strike}
+use Rattle.stop.specs.Names.{Letters, Figures, Kind, Still, Space, Return, Shift, Char, Known, Spot, At, From, Landing, Nowhere, There, Somewhere, Sign, Verdict, Answer, Taken, NoCode, Watch, Strike}
 use Rattle.stop.specs.Names.known
 use Rattle.stop.specs.Names.sign
 use Rattle.stop.specs.Names.verdict

@@ -4,7 +4,7 @@ use Prim.Native.Nat.{ℕ, min, _+_}
 use mathlib.Core.Bool.{Bool, true, false, cond, _||_}
 use lib.Dec.{ltb}
 use Rattle.code.specs.Kinds.{kindOf}
-use Rattle.stop.specs.Names.{Case, Letters, Figures, Kind, Still, Space, Return, Shift, Char, Known, Spot, At, From, Watch}
+use Rattle.stop.specs.Names.{Letters, Figures, Kind, Still, Space, Return, Shift, Char, Known, Spot, At, From, Watch}
 use Rattle.stop.specs.Names.known
 
 -- the printer's case

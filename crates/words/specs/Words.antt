@@ -1,7 +1,7 @@
 -- The words of a record: codes in decimal, with white space between. On a log sheet the word `line` stands before them, and
 -- `host` ends them.
 use Prim.Native.Nat.{ℕ, min, _+_, _-_, _*_}
-use mathlib.Core.Bool.{Bool, true, false, cond, _||_}
+use mathlib.Core.Bool.{Bool, false, cond, _||_}
 use lib.Dec.{eqb, ltb}
 use lib.ListN.{getD, set, replicate}
 use mathlib.Core.List.{List, [], _∷_}

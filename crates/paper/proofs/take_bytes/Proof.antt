@@ -1,6 +1,6 @@
 -- `paper::take_bytes` is safe and ends. The measure is how many bytes are left.
 -- Assumes nothing.
-use Prim.Native.Nat.{_≤_, _<_, _+_, _-_}
+use Prim.Native.Nat.{_≤_, _-_}
 use lib.ListN.{length}
 use borrow.Author.Needs.{needs}
 use Rattle.paper.proofs.take_bytes.Statement.{statement}

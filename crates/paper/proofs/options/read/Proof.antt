@@ -1,7 +1,6 @@
 -- `paper::options::read` is safe and ends. The measure is how many arguments are left.
 -- Assumes nothing.
-use Prim.Native.Nat.{_≤_, _<_, _+_, _-_}
-use lib.ListN.{length}
+use Prim.Native.Nat.{_-_}
 use borrow.Author.Needs.{needs}
 use Rattle.paper.proofs.options.read.Statement.{statement}
 use Rattle.paper.proofs.options.read.Tie as tie

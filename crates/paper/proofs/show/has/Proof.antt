@@ -1,7 +1,6 @@
 -- `paper::show::has` is safe and ends. The invariant: the place is within the row.
 -- Assumes nothing.
-use Prim.Native.Nat.{_≤_, _<_, _+_, _-_}
-use lib.ListN.{length}
+use Prim.Native.Nat.{_≤_, _-_}
 use borrow.Author.Needs.{needs}
 use Rattle.paper.proofs.show.has.Statement.{statement}
 use Rattle.paper.proofs.show.has.Tie as tie
