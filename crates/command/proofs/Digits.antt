@@ -14,7 +14,7 @@ use Rattle.command.specs.Names.{Verb, Form, Empty, Digits}
 use Rattle.command.specs.Read.{isDigit, inField, grown, added, digit, read}
 use Rattle.command.specs.Decimal.{allDigits, number}
 use Rattle.command.specs.Reads.{after}
-use Rattle.command.proofs.Both.{both}
+use Rattle.laws.proofs.Both.{both}
 
 pub digit-least : (b : ℕ) → isDigit b ≡ true → 48 ≤ b
 digit-least b h = leb-true 48 b (both (leb 48 b) (leb b 57) h .0)

@@ -13,7 +13,7 @@ use lib.ListN.{length, set, length-set}
 use Rattle.command.specs.Names.{Verb, Form, Empty, Digits, Ex, Stage, Text, Swallow, Held, Begun, Lettered, Typed, Fields, Discard, Reader, Out, Nothing, One, Two, Finished, Step}
 use Rattle.command.specs.Read.{unused, at, inField, afresh, over, ends, inside, isSmall, isCapital, alike, isLetter, verb, isDigit, opened, digit, ex, field, finish, readAt, read, soundStage}
 use Rattle.command.specs.Reads.{after}
-use Rattle.command.proofs.Both.{both}
+use Rattle.laws.proofs.Both.{both}
 
 -- a finished command has 2 to 12 fields
 abbrev pub proper : Out → Bool

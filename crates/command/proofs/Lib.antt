@@ -1,4 +1,3 @@
-pub mod Both
 pub mod Cuts
 pub mod Digits
 pub mod Leads

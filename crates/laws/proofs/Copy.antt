@@ -1,10 +1,10 @@
 -- A loop that copies the front of one list over the front of another, an element a turn.
 -- Assumes nothing.
 use mathlib.Core.Path.{_≡_, refl}
-use mathlib.Core.List.{List}
+use mathlib.Core.List.{List, [], _∷_}
 use Prim.Native.Nat.{ℕ, _≤_, _<_, _+_}
 use native.Mathlib.Numerals.{add-one}
-use native.Mathlib.Nat.{zero-add}
+use native.Mathlib.Nat.{zero-add, not-suc-le-zero}
 use lib.ListN.{length, getD, take, set}
 use lib.Seq.{paste, paste-suc, length-take-le}
 use Rattle.laws.specs.Written.{fronted}
@@ -17,3 +17,8 @@ copy-turn d r s j h l e = rw (zero-add j) at (turn d r 0 s j (rw (zero-add j) h)
 
 pub copied : (d s : List ℕ) (n : ℕ) → n ≤ length s → paste d 0 s n ≡ fronted d (take n s)
 copied d s n h = let l : length (take n s) ≡ n = length-take-le n s h in rw (zero-add, l)
+
+-- one element at the front
+pub set-front : (d : List ℕ) (x : ℕ) → 0 < length d → set d 0 x ≡ fronted d (x ∷ [])
+set-front [] x h = absurd (not-suc-le-zero h)
+set-front (y ∷ d) x h = refl

@@ -3,7 +3,7 @@
 use Prim.Native.Nat.{ℕ, _+_, _-_, _≤_}
 use mathlib.Core.Path.{_≡_, refl, sym}
 use mathlib.Core.List.{List, [], _∷_, _++_, append-assoc, append-nil}
-use native.Mathlib.Nat.{add-assoc, add-zero, le-of-eq}
+use native.Mathlib.Nat.{add-assoc, add-zero, zero-add, le-of-eq}
 use native.Mathlib.Omega.{arith}
 use borrow.Rule.Slice.PartMut.{putMid, midOf}
 use lib.ListN.{length, take, drop, length-append, length-drop, drop-of-length-le, take-append-drop}
@@ -41,3 +41,10 @@ module _ (old : List ℕ) (at : ℕ) (new : List ℕ) (fits : at + length new �
   length-written =
       let l : length (take at old) ≡ at = length-take-le at old (omega arith) in
       simp (length-append, l, length-drop) (omega arith)
+
+-- what was written at the front is written on
+pub fronted-more : (old p more : List ℕ) → length p ≤ length old → written (fronted old p) (length p) more ≡ fronted old (p ++ more)
+fronted-more old p more h = simp zero-add at (written-more old 0 p (rw zero-add h) more)
+
+pub length-fronted : (old p : List ℕ) → length p ≤ length old → length (fronted old p) ≡ length old
+length-fronted old p h = rw (length-append, length-drop) (omega arith)

@@ -1,16 +1,14 @@
 -- What it is for a complete message to stand in some bytes, and for a stretch of them to be the earliest one's.
-use Prim.Native.Nat.{ℕ, zero, suc, _+_, _*_, _-_, _<_, _≤_}
+use Prim.Native.Nat.{ℕ, _+_, _<_, _≤_}
 use mathlib.Core.Path.{_≡_}
-use mathlib.Core.Bool.{Bool, true, false, cond, _&&_}
 use mathlib.Core.List.{List, [], _∷_, _++_}
-use lib.Dec.{eqb, leb}
-use lib.ListN.{length, take, drop}
+use lib.ListN.{length, drop}
 use Rattle.message.specs.Message.{body, framed}
 
 -- every number is 0 to 255
-abbrev pub Bytes : List ℕ → Type 0
-Bytes [] = Unit {0}
-Bytes (n ∷ ns) = (n ≤ 255) × Bytes ns
+abbrev pub AllBytes : List ℕ → Type 0
+AllBytes [] = Unit {0}
+AllBytes (n ∷ ns) = (n ≤ 255) × AllBytes ns
 
 -- at least two, the second counting the rest
 abbrev pub Counted : List ℕ → Type 0
@@ -20,7 +18,7 @@ Counted (id ∷ n ∷ values) = n ≡ length values
 
 -- a complete message of these numbers, with its CR LF on both sides, stands at place i
 pub record Stands (s : List ℕ) (i : ℕ) (ns : List ℕ) : Type 0 where
-  pub bytes : Bytes ns
+  pub bytes : AllBytes ns
   pub counted : Counted ns
   pub rest : List ℕ
   pub spelt : drop i s ≡ framed ns ++ rest

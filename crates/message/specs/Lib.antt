@@ -1,3 +1,5 @@
 pub mod Message
+pub mod Made
 pub mod Find
 pub mod Scan
+pub mod Located

@@ -53,10 +53,14 @@ prefix [] s = true
 prefix (x ∷ w) [] = false
 prefix (x ∷ w) (y ∷ s) = eqb y x && prefix w s
 
+-- the k bytes of numbers that are read, if they may end here and CR LF follows
+abbrev pub endsHere : Scan → ℕ → List ℕ → Numbers
+endsHere st k s = cond (prefix crlf s && complete st) (Bytes k) Nothing
+
 -- how many bytes the numbers take, up to a CR LF, of which k are read; nothing where they are not those of a message
 abbrev pub numbersFrom : Scan → ℕ → List ℕ → Numbers
 numbersFrom st k [] = Nothing
-numbersFrom st k (b ∷ s) = cond (eqb b 13) (cond (prefix crlf (b ∷ s) && complete st) (Bytes k) Nothing) (numbersFrom (scan st b) (suc k) s)
+numbersFrom st k (b ∷ s) = cond (eqb b 13) (endsHere st k (b ∷ s)) (numbersFrom (scan st b) (suc k) s)
 
 -- the numbers of the message that begins with the first byte, if one does
 abbrev pub messageAt : List ℕ → Numbers

@@ -1,3 +1,4 @@
 pub mod Sends
 pub mod Endings
 pub mod OneItem
+pub mod Whole

@@ -8,10 +8,11 @@ use lib.ListN.{length, getD, take, drop, replicate}
 use Rattle.settings.specs.Names.{Verb, Write, Read, Other, Settings, Connection, Mode1, Mode4, Mode10, Mode11, Id, Version, Ascii, Baudot, Spacing, Marking, Endings, Limit, OnSpace, OnReturn, Filter, Reports, Ending, Factory, Undefined, Takes, Count, Fault, Stored, Outcome}
 use Rattle.settings.specs.Names.takes
 use Rattle.settings.specs.Names.fault
-use Rattle.settings.specs.Table.{row, idOf, takenBy, isOn, factory}
+use Rattle.settings.specs.Table.{inRange, row, idOf, takenBy, isOn, factory}
 
 -- The first error that applies.
 
+-- all of them added
 abbrev pub sum : List ℕ → ℕ
 sum [] = 0
 sum (n ∷ ns) = n + sum ns
@@ -26,10 +27,11 @@ fitting n count fields = eqb (getD fields 1 0) n && (eqb count (n + 2) || eqb co
 
 -- a read has no value to be out of range
 abbrev pub ranged : Verb → Id → List ℕ → Bool
-ranged Write id fields = row id .range (drop 2 fields)
+ranged Write id fields = inRange (row id .range) (drop 2 fields)
 ranged Read id fields = true
 ranged Other id fields = true
 
+-- of a command whose id takes so many parameters: those first, then the checksum, then the range
 abbrev pub faultIn : Takes → Verb → Id → ℕ → List ℕ → Fault
 faultIn takes.Nothing v id count fields = fault.Id
 faultIn (Count n) v id count fields =
@@ -37,6 +39,7 @@ faultIn (Count n) v id count fields =
     (cond (checked n count fields) (cond (ranged v id fields) fault.Nothing fault.Range) fault.Checksum)
     fault.Parameters
 
+-- type first, then id
 abbrev pub faultOf : Verb → ℕ → List ℕ → Fault
 faultOf Other count fields = fault.Type
 faultOf Write count fields = faultIn (takenBy Write (idOf (getD fields 0 0))) Write (idOf (getD fields 0 0)) count fields
@@ -53,12 +56,15 @@ numberOf fault.Range = 5
 
 -- What a write stores.
 
+-- the connection is not written
 abbrev pub kept : Settings → Connection → Stored
 kept s c = record { settings = s; connection = c; connected = false }
 
+-- it is written
 abbrev pub joined : Settings → Connection → Stored
 joined s c = record { settings = s; connection = c; connected = true }
 
+-- one setting changed
 abbrev pub withEndings : Settings → Bool → Settings
 withEndings s x = record { endings = x; limit = s .limit; onspace = s .onspace; onreturn = s .onreturn; filter = s .filter; reports = s .reports; string = s .string }
 
@@ -97,6 +103,7 @@ store s c Ending ps = kept (withString s (take 8 ps)) c
 store s c Factory ps = kept factory c
 store s c Undefined ps = kept s c
 
+-- only a write stores
 abbrev pub obey : Settings → Connection → Verb → Id → List ℕ → Stored
 obey s c Write id ps = store s c id ps
 obey s c Read id ps = kept s c
@@ -104,6 +111,7 @@ obey s c Other id ps = kept s c
 
 -- The answer: id, count, values as stored.
 
+-- on is 1
 abbrev pub bit : Bool → ℕ
 bit true = 1
 bit false = 0
@@ -115,6 +123,7 @@ connectionNumbers (Mode4 port speed) = 4 ∷ 2 ∷ port ∷ speed ∷ []
 connectionNumbers Mode10 = 10 ∷ 0 ∷ []
 connectionNumbers Mode11 = 11 ∷ 0 ∷ []
 
+-- the id, how many values it has, and the values
 abbrev pub reading : Stored → Id → List ℕ
 reading t Version = 0 ∷ 4 ∷ 0 ∷ 0 ∷ 1 ∷ 0 ∷ []
 reading t Ascii = connectionNumbers (t .connection)
@@ -131,23 +140,29 @@ reading t Ending = 90 ∷ 8 ∷ t .settings .string
 reading t Factory = 250 ∷ 0 ∷ []
 reading t Undefined = []
 
--- the error message's numbers
-abbrev pub refusal : ℕ → Fault → List ℕ
-refusal id f = 255 ∷ 2 ∷ id ∷ numberOf f ∷ []
-
 -- The whole command.
 
+-- what is stored, and an answer
 abbrev pub outcome : Stored → List ℕ → Outcome
 outcome t ns = record { stored = t; numbers = ns ++ replicate (10 - length ns) 0; count = length ns }
 
-abbrev pub answered : Fault → Settings → Connection → Verb → List ℕ → Outcome
-answered fault.Nothing s c v fields = outcome (obey s c v (idOf (getD fields 0 0)) (drop 2 fields)) (reading (obey s c v (idOf (getD fields 0 0)) (drop 2 fields)) (idOf (getD fields 0 0)))
-answered fault.Type s c v fields = outcome (kept s c) (refusal (getD fields 0 0) fault.Type)
-answered fault.Id s c v fields = outcome (kept s c) (refusal (getD fields 0 0) fault.Id)
-answered fault.Parameters s c v fields = outcome (kept s c) (refusal (getD fields 0 0) fault.Parameters)
-answered fault.Checksum s c v fields = outcome (kept s c) (refusal (getD fields 0 0) fault.Checksum)
-answered fault.Range s c v fields = outcome (kept s c) (refusal (getD fields 0 0) fault.Range)
+-- without error
+abbrev pub succeeded : Settings → Connection → Verb → List ℕ → Outcome
+succeeded s c v fields = outcome (obey s c v (idOf (getD fields 0 0)) (drop 2 fields)) (reading (obey s c v (idOf (getD fields 0 0)) (drop 2 fields)) (idOf (getD fields 0 0)))
 
--- a finished command of `count` fields: an error changes nothing
+-- an error changes nothing, and answers 255,2,id,n
+abbrev pub refused : Settings → Connection → ℕ → Fault → Outcome
+refused s c id f = outcome (kept s c) (255 ∷ 2 ∷ id ∷ numberOf f ∷ [])
+
+-- by what is wrong
+abbrev pub answered : Fault → Settings → Connection → Verb → List ℕ → Outcome
+answered fault.Nothing s c v fields = succeeded s c v fields
+answered fault.Type s c v fields = refused s c (getD fields 0 0) fault.Type
+answered fault.Id s c v fields = refused s c (getD fields 0 0) fault.Id
+answered fault.Parameters s c v fields = refused s c (getD fields 0 0) fault.Parameters
+answered fault.Checksum s c v fields = refused s c (getD fields 0 0) fault.Checksum
+answered fault.Range s c v fields = refused s c (getD fields 0 0) fault.Range
+
+-- a finished command of `count` fields
 unfoldable pub commanded : Settings → Connection → Verb → ℕ → List ℕ → Outcome
 commanded s c v count fields = answered (faultOf v count fields) s c v fields

@@ -9,6 +9,8 @@ pub use Rattle.settings.specs.declared.Id.the-variants.{Version, Ascii, 
 pub use Rattle.settings.specs.declared.Takes.{Takes}
 pub use Rattle.settings.specs.declared.Takes.the-variants.{Count}
 pub use Rattle.settings.specs.declared.Takes.the-variants as takes
+pub use Rattle.settings.specs.declared.Range.{Range}
+pub use Rattle.settings.specs.declared.Range.the-variants.{Free, Between, Link, Codes}
 pub use Rattle.settings.specs.declared.Fault.{Fault}
 pub use Rattle.settings.specs.declared.Fault.the-variants as fault
 pub use Rattle.settings.specs.declared.Stored.{Stored}

@@ -1,0 +1,10 @@
+pub mod Agreement
+pub mod After
+pub mod Folds
+pub mod Prints
+pub mod Weights
+pub mod Home
+pub mod Told
+pub mod Margin
+pub mod Length
+pub mod Traces

@@ -1,0 +1,6 @@
+pub mod Names
+pub mod Agrees
+pub mod Margin
+pub mod Sure
+pub mod Asked
+pub mod Traces

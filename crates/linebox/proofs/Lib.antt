@@ -1,0 +1,11 @@
+pub mod Bytes
+pub mod Modes
+pub mod Sent
+pub mod Answered
+pub mod Stays
+pub mod Turns
+pub mod Rest
+pub mod Most
+pub mod Ending
+pub mod Cutting
+pub mod Reached

@@ -1,0 +1,14 @@
+-- `linebox::sends::start` meets its contract.
+-- Assumes nothing.
+use borrow.Author.Needs.{needs}
+use Rattle.linebox.proofs.sends.start.Statement.{statement}
+use Rattle.linebox.proofs.sends.start.Tie as tie
+
+empty-requires : tie.Need-empty-requires
+empty-requires c κs = search needs
+
+returns : tie.Need-returns
+returns c = rw (c .empty .ensures)
+
+pub start-spec : {M : Type 1} → statement M
+start-spec = tie.close (tie.spec empty-requires returns)

@@ -1,0 +1,11 @@
+pub mod Digits
+pub mod Sizes
+pub mod Room
+pub mod Puts
+pub mod Prefix
+pub mod Turns
+pub mod Reading
+pub mod Front
+pub mod Right
+pub mod HandedBack
+pub mod Examples

@@ -1,0 +1,19 @@
+-- What the finder's answer has to be.
+use Prim.Native.Nat.{ℕ, _+_, _≤_}
+use mathlib.Core.Path.{_≡_}
+use mathlib.Core.List.{List}
+use lib.ListN.{length, take, drop}
+use Rattle.message.specs.declared.Place.{Place}
+use Rattle.message.specs.Find.{NoMessage, Earliest}
+use Rattle.message.specs.Scan.{located}
+
+-- it is the computed place, which is empty exactly if no message stands anywhere, and otherwise the earliest one's
+pub record Located (s : List ℕ) (p : Place) : Type 0 where
+  pub computed : p ≡ located s
+  pub within : p .start + p .len ≤ length s
+  pub none : p .len ≡ 0 → NoMessage s
+  pub some : (p .len ≡ 0 → ⊥) → Earliest s (p .start) (p .len)
+
+-- the bytes of that stretch
+abbrev pub found : List ℕ → List ℕ
+found s = take (located s .len) (drop (located s .start) s)

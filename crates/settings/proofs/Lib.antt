@@ -1,0 +1,4 @@
+pub mod Walk
+pub mod Accept
+pub mod Written
+pub mod Sent

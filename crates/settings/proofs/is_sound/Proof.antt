@@ -1,0 +1,17 @@
+-- `settings::is_sound` meets its contract: its two parts are those of the promise.
+-- Assumes nothing.
+use borrow.Author.Needs.{needs}
+use Rattle.settings.proofs.is_sound.Statement.{statement}
+use Rattle.settings.proofs.is_sound.Tie as tie
+
+settings-sound-requires : tie.Need-settings-sound-requires
+settings-sound-requires c κs = search needs
+
+connection-sound-requires : tie.Need-connection-sound-requires
+connection-sound-requires c κs = search needs
+
+returns : tie.Need-returns
+returns c = simp (c .before .settings-sound .ensures, c .connection-sound .ensures)
+
+pub is-sound-spec : {M : Type 1} → statement M
+is-sound-spec = tie.close (tie.spec settings-sound-requires connection-sound-requires returns)

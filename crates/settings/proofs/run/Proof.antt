@@ -1,0 +1,48 @@
+-- `settings::run` meets its contract: where there is no fault it succeeds as `succeeded` says, and any other is refused.
+-- Assumes nothing.
+use mathlib.Core.Path.{sym, _∙_}
+use mathlib.Core.List.{[], _∷_}
+use types.Run.{miss}
+use borrow.Author.Needs.{needs}
+use Rattle.settings.proofs.Accept.{success, refusal}
+use Rattle.settings.proofs.run.Statement.{statement}
+use Rattle.settings.proofs.run.Tie as tie
+
+array-read-id : tie.Need-array-read-id
+array-read-id c = search needs
+
+fault-of-requires : tie.Need-fault-of-requires
+fault-of-requires c κs = search needs
+
+enum-told : tie.Need-enum-told
+enum-told c = search needs
+
+succeed-requires : tie.Need-succeed-requires
+succeed-requires c κs = search needs
+
+returns : tie.Need-returns
+returns c =
+    let a = c .before .before .before .before .args in
+    let e = sym (c .before .before .before .fault-of .ensures) ∙ c .before .enum-told .given .1 in
+    c .succeed .ensures ∙ sym (success (a .s) (a .c) (a .v) (a .count) (a .t5) e)
+
+refuse-requires : tie.Need-refuse-requires
+refuse-requires c κs = search needs
+
+returns-2 : tie.Need-returns-2
+returns-2 c =
+    let a = c .before .before .before .args in
+    let e = c .before .before .fault-of .ensures in
+    c .refuse .ensures ∙ rw e (sym (refusal (a .s) (a .c) (a .v) (a .count) (a .t5) (λ z. miss (1 ∷ 2 ∷ 3 ∷ 4 ∷ 5 ∷ []) 0 tt (rw (e ∙ z) at (c .before .match .keys2)))))
+
+pub run-spec : {M : Type 1} → statement M
+run-spec =
+    tie.close
+    (tie.spec
+    array-read-id
+    fault-of-requires
+    enum-told
+    succeed-requires
+    returns
+    refuse-requires
+    returns-2)

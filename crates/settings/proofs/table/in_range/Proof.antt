@@ -1,0 +1,66 @@
+-- `settings::table::in_range` meets its contract: each form of a range has its tests.
+-- Assumes nothing.
+use borrow.Author.Needs.{needs}
+use Rattle.settings.proofs.table.in_range.Statement.{statement}
+use Rattle.settings.proofs.table.in_range.Tie as tie
+
+array-read-first : tie.Need-array-read-first
+array-read-first c = search needs
+
+array-read-second : tie.Need-array-read-second
+array-read-second c = search needs
+
+enum-told : tie.Need-enum-told
+enum-told c = search needs
+
+enum-known-range : tie.Need-enum-known-range
+enum-known-range c = search needs
+
+is-between-requires : tie.Need-is-between-requires
+is-between-requires c κs = search needs
+
+enum-known-range-2 : tie.Need-enum-known-range-2
+enum-known-range-2 c = search needs
+
+is-link-requires : tie.Need-is-link-requires
+is-link-requires c κs = search needs
+
+enum-told-2 : tie.Need-enum-told-2
+enum-told-2 c = search needs
+
+first-eight-requires : tie.Need-first-eight-requires
+first-eight-requires c κs = search needs
+
+sound-string-requires : tie.Need-sound-string-requires
+sound-string-requires c κs = search needs
+
+returns : tie.Need-returns
+returns c = search needs
+
+returns-2 : tie.Need-returns-2
+returns-2 c = simp (c .before .before .range .given .1, c .is-between .ensures)
+
+returns-3 : tie.Need-returns-3
+returns-3 c = simp (c .before .before .range2 .given .1, c .is-link .ensures)
+
+returns-4 : tie.Need-returns-4
+returns-4 c = simp (c .before .before .enum-told2 .given .1, c .sound-string .ensures, c .before .first-eight .ensures)
+
+pub in-range-spec : {M : Type 1} → statement M
+in-range-spec =
+    tie.close
+    (tie.spec
+    array-read-first
+    array-read-second
+    enum-told
+    enum-known-range
+    is-between-requires
+    enum-known-range-2
+    is-link-requires
+    enum-told-2
+    first-eight-requires
+    sound-string-requires
+    returns
+    returns-2
+    returns-3
+    returns-4)

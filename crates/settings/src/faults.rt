@@ -1,0 +1,130 @@
+// What is wrong with a command: the first error that applies.
+ghost use mathlib.Core.Path.{_≡_};
+ghost use Prim.Native.Nat.{_%_};
+ghost use lib.ListN.{getD, take, drop};
+ghost use Rattle.settings.specs.Command.{sum, checked, fitting, ranged, faultIn, faultOf, numberOf};
+use crate::Fault;
+use crate::Id;
+use crate::Takes;
+use crate::table::id_of;
+use crate::table::in_range;
+use crate::table::range_of;
+use crate::table::reads;
+use crate::table::writes;
+use command::Verb;
+
+// The field at a place; 0 where there is none.
+fn field_at(fields: [u8; 11], i: usize) -> u8
+    ensures { λ r. ⌜ r ≡ getD fields i 0 ⌝ }
+{
+    if i < 11 { fields[i] } else { 0 }
+}
+
+// The sum of the first n fields, modulo 256.
+fn checksum(fields: [u8; 11], n: usize) -> u8
+    ensures { λ r. ⌜ r ≡ sum (take n fields) % 256 ⌝ }
+{
+    let mut total: u16 = 0;
+    let mut i = 0;
+    while i < n {
+        let field = field_at(fields, i) as u16;
+        total = (total + field) % 256;
+        i += 1;
+    }
+    total as u8
+}
+
+// Whether there is no checksum after n parameters, or the right one.
+fn is_checked(n: u8, count: u8, fields: [u8; 11]) -> bool
+    ensures { λ r. ⌜ r ≡ checked n count fields ⌝ }
+{
+    let k = n as usize + 2;
+    (count as usize == k) | (checksum(fields, k) == field_at(fields, k))
+}
+
+// Whether the number field is n, and the parameters are that many or one more.
+fn is_fitting(n: u8, count: u8, fields: [u8; 11]) -> bool
+    ensures { λ r. ⌜ r ≡ fitting n count fields ⌝ }
+{
+    let k = n as usize;
+    let c = count as usize;
+    (fields[1] == n) & ((c == k + 2) | (c == k + 3))
+}
+
+// The parameters, and what follows them.
+pub fn parameters(fields: [u8; 11]) -> [u8; 9]
+    ensures { λ r. ⌜ r ≡ drop 2 fields ⌝ }
+{
+    [
+        fields[2],
+        fields[3],
+        fields[4],
+        fields[5],
+        fields[6],
+        fields[7],
+        fields[8],
+        fields[9],
+        fields[10],
+    ]
+}
+
+// Whether the values are in their range.
+fn is_ranged(v: Verb, id: Id, fields: [u8; 11]) -> bool
+    ensures { λ r. ⌜ r ≡ ranged v id fields ⌝ }
+{
+    match v {
+        Verb::Write => in_range(range_of(id), parameters(fields)),
+        Verb::Read => true,
+        Verb::Other => true,
+    }
+}
+
+// What is wrong with a command whose id takes so many parameters.
+fn fault_in(taken: Takes, v: Verb, id: Id, count: u8, fields: [u8; 11]) -> Fault
+    ensures { λ r. ⌜ r ≡ faultIn taken v id count fields ⌝ }
+{
+    match taken {
+        Takes::Nothing => Fault::Id,
+        Takes::Count(n) => {
+            let fits = is_fitting(n, count, fields);
+            let checks = is_checked(n, count, fields);
+            let ranges = is_ranged(v, id, fields);
+            if !fits {
+                return Fault::Parameters;
+            }
+            if !checks {
+                return Fault::Checksum;
+            }
+            if !ranges {
+                return Fault::Range;
+            }
+            Fault::Nothing
+        }
+    }
+}
+
+// What is wrong with a command.
+pub fn fault_of(v: Verb, count: u8, fields: [u8; 11]) -> Fault
+    ensures { λ r. ⌜ r ≡ faultOf v count fields ⌝ }
+{
+    let id = id_of(fields[0]);
+    match v {
+        Verb::Write => fault_in(writes(id), v, id, count, fields),
+        Verb::Read => fault_in(reads(id), v, id, count, fields),
+        Verb::Other => Fault::Type,
+    }
+}
+
+// The number of an error.
+pub fn number_of(f: Fault) -> u8
+    ensures { λ r. ⌜ r ≡ numberOf f ⌝ }
+{
+    match f {
+        Fault::Nothing => 0,
+        Fault::Type => 1,
+        Fault::Id => 2,
+        Fault::Parameters => 3,
+        Fault::Checksum => 4,
+        Fault::Range => 5,
+    }
+}
