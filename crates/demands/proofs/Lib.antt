@@ -1,1 +1,2 @@
 pub mod OurBox
+pub mod ItemCodes

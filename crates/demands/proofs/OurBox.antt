@@ -15,6 +15,7 @@ use Rattle.linebox.specs.Ends.{stateOf, firstsOf, secondsOf, outcome, When, Tak
 use Rattle.linebox.proofs.Ending.{ends, folds, only, within}
 use Rattle.demands.specs.Names.{State, Stream, Answer, All, NoRoom, NoCode, Unsound, Called}
 use Rattle.demands.specs.Box.{Result, Box, resulting, ours}
+use Rattle.demands.specs.ExactCodes.{ExactCodes}
 use Rattle.demands.specs.EveryCall.{noCode, hasRoom, Goes, Exactly, Splits, Ended, EveryCall}
 
 module _ (t : Stream) (s : State) (a b : ℕ) where
@@ -89,10 +90,12 @@ follows t s xs one two d e inside h = record {
   splits = h;
   count = sym (length-take-le (d .taken) xs inside);
   state = ap (λ (r : Done). r .state) e;
-  wrote-first = ap (λ (r : Done). length (r .first)) e;
-  wrote-second = ap (λ (r : Done). length (r .second)) e;
-  first = ap (λ (r : Done). fronted one (r .first)) e;
-  second = ap (λ (r : Done). fronted two (r .second)) e;
+  wrote = record {
+    count-first = ap (λ (r : Done). length (r .first)) e;
+    count-second = ap (λ (r : Done). length (r .second)) e;
+    first = ap (λ (r : Done). fronted one (r .first)) e;
+    second = ap (λ (r : Done). fronted two (r .second)) e;
+  };
 }
 
 -- Our box meets demand 1.
@@ -110,13 +113,17 @@ promised t s xs one two now₁ now₂ r p = rw (p .gives, p .one, p .two)
 
 -- Nothing else meets it.
 
+-- the bytes taken are those counted
+front : (xs taken rest : List ℕ) (n : ℕ) → xs ≡ taken ++ rest → n ≡ length taken → take n xs ≡ taken
+front xs taken rest n e l = rw e (take-at taken rest n (sym l))
+
 -- what meets demand 1 is our box's result
 ended-ours : (t : Stream) (s : State) (xs one two : List ℕ) (r : Result) → Ended t s xs one two r → r ≡ ours t s xs one two
 ended-ours t s xs one two r h =
     let n = length (h .taken) in
-    let p : take n xs ≡ h .taken = rw (h .splits .whole) (take-at (h .taken) (h .rest) n refl) in
+    let p : take n xs ≡ h .taken = front xs (h .taken) (h .rest) n (h .splits .whole) refl in
     let e = only t s xs (length one) (length two) (r .gives .answer) n (counts t s (length one) (length two) xs (r .gives .answer) (h .taken) (h .rest) (h .splits)) in
-    let u : r ≡ resulting (outcome t s xs (r .gives .answer) n) one two = rw (p, ← h .first, ← h .second, ← h .count, ← h .state, ← h .wrote-first, ← h .wrote-second) refl in
+    let u : r ≡ resulting (outcome t s xs (r .gives .answer) n) one two = rw (p, ← h .wrote .first, ← h .wrote .second, ← h .count, ← h .state, ← h .wrote .count-first, ← h .wrote .count-second) refl in
     u ∙ ap (λ (d : Done). resulting d one two) (sym e)
 
 -- two boxes that meet demand 1 agree on every call
@@ -130,3 +137,12 @@ exactly-when x p t s xs one two w taken rest h =
     let e = ended-ours t s xs one two (x t s xs one two) (p t s xs one two)
         ∙ ap (λ (d : Done). resulting d one two) (only t s xs (length one) (length two) w (length taken) (counts t s (length one) (length two) xs w taken rest h)) in
     (ap (λ (r : Result). r .gives .answer) e, ap (λ (r : Result). r .gives .taken) e)
+
+-- Demand 2 follows from demand 1.
+pub exact-codes : (x : Box) → EveryCall x → ExactCodes x
+exact-codes x p t s xs one two =
+    let h = p t s xs one two in
+    rw (front xs (h .taken) (h .rest) (x t s xs one two .gives .taken) (h .splits .whole) (h .count)) (h .wrote)
+
+pub ours-exact-codes : ExactCodes ours
+ours-exact-codes = exact-codes ours ours-every-call

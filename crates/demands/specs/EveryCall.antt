@@ -4,13 +4,13 @@ use mathlib.Core.Path.{_≡_}
 use mathlib.Core.Bool.{Bool, true, false}
 use mathlib.Core.List.{List, [], _∷_, _++_}
 use lib.ListN.{length}
-use Rattle.laws.specs.Written.{fronted}
 use Rattle.linebox.specs.State.{sound}
 use Rattle.linebox.specs.Step.{step}
 use Rattle.linebox.specs.Call.{refuses, fits}
 use Rattle.linebox.specs.Ends.{stateOf, firstsOf, secondsOf, fromSound}
 use Rattle.demands.specs.Names.{State, Stream, Answer, All, NoRoom, NoCode, Unsound}
 use Rattle.demands.specs.Box.{Result, Box}
+use Rattle.demands.specs.ExactCodes.{Wrote}
 
 -- A byte x, after the bytes `before` that were taken from state s, with a and b places lent.
 
@@ -53,11 +53,7 @@ pub record Ended (t : Stream) (s : State) (xs one two : List ℕ) (r : Result) :
   pub splits : Splits t s xs (length one) (length two) (r .gives .answer) taken rest
   pub count : r .gives .taken ≡ length taken
   pub state : r .gives .state ≡ stateOf t s taken
-  -- each place of the buffers, and how many were written
-  pub wrote-first : r .gives .first ≡ length (firstsOf t s taken)
-  pub wrote-second : r .gives .second ≡ length (secondsOf t s taken)
-  pub first : r .first ≡ fronted one (firstsOf t s taken)
-  pub second : r .second ≡ fronted two (secondsOf t s taken)
+  pub wrote : Wrote t s taken one two r
 
 -- each call, any state, any input, any buffers
 abbrev pub EveryCall : Box → Type 0

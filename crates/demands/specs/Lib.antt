@@ -1,3 +1,5 @@
 pub mod Names
 pub mod Box
+pub mod ExactCodes
 pub mod EveryCall
+pub mod ItemCodes
