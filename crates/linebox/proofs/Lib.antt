@@ -3,3 +3,5 @@ pub mod Modes
 pub mod Sent
 pub mod Answered
 pub mod Stays
+pub mod Rest
+pub mod Most
