@@ -5,3 +5,5 @@ pub mod Answered
 pub mod Stays
 pub mod Rest
 pub mod Most
+pub mod Ending
+pub mod Cutting

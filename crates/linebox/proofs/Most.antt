@@ -12,7 +12,7 @@ use Rattle.code.specs.Rows.{rowAt}
 use Rattle.command.specs.Read.{read}
 use Rattle.settings.specs.Laws.{Sound}
 use Rattle.settings.proofs.Sent.{answers-short}
-use Rattle.sender.specs.Item.{wanted, incoming}
+use Rattle.sender.specs.Item.{wanted}
 use Rattle.agree.proofs.Length.{item-length, items-length}
 use Rattle.linebox.specs.Names.{Case, Kind, Wanted, Connection, Mode1, Mode4, Mode10, Mode11, Out, Nothing, One, Two, Finished, State, Stream, Host, Line, Tu}
 use Rattle.linebox.specs.State.{sound, withReader}
@@ -21,7 +21,6 @@ use Rattle.linebox.specs.Call.{firstOf, secondOf}
 use Rattle.linebox.specs.Laws.{Parts, Few, mostFirst, mostSecond}
 use Rattle.linebox.proofs.Sent.{asked-few}
 use Rattle.linebox.proofs.Stays.{sound-parts}
-
 
 text-few : (k : Connection) (slash : Bool) (b : ℕ) → length (text k (released slash b)) ≤ 2
 text-few (Mode1 port speed) slash b = asked-few slash b

@@ -4,3 +4,4 @@ pub mod Step
 pub mod Call
 pub mod Byte
 pub mod Laws
+pub mod Ends
