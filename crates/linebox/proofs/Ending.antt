@@ -126,14 +126,14 @@ only-taking t s (x ∷ xs) a b (suc n) w h before p =
     takes-on t s x xs a b (before 0 (omega arith))
     ∙ ap (onward t (step t s x)) (only-taking t (step t s x .state) xs (free₁ t s x xs a b) (free₂ t s x xs a b) n w h (before-tail t s x xs a b n before) (when-tail t s x xs a b n w p))
 
-call-sound : (t : Stream) (s : State) (xs : List ℕ) (a b : ℕ) → sound s ≡ true → call t s xs a b ≡ taking t s xs a b
-call-sound t s xs a b h = rw h
+only-sound : (t : Stream) (s : State) (xs : List ℕ) (a b : ℕ) (w : Answer) (n : ℕ) → fromSound w ≡ true → Ends t s xs a b w n → call t s xs a b ≡ outcome t s xs w n
+only-sound t s xs a b w n h p = rw (p .state, h) (only-taking t s xs a b n w h (p .before) (p .next))
 
 -- an outcome that stands under its answer's condition is the call's
 pub only : (t : Stream) (s : State) (xs : List ℕ) (a b : ℕ) (w : Answer) (n : ℕ) → Ends t s xs a b w n → call t s xs a b ≡ outcome t s xs w n
-only t s xs a b All n p = call-sound t s xs a b (p .state) ∙ only-taking t s xs a b n All refl (p .before) (p .next)
-only t s xs a b NoRoom n p = call-sound t s xs a b (p .state) ∙ only-taking t s xs a b n NoRoom refl (p .before) (p .next)
-only t s xs a b NoCode n p = call-sound t s xs a b (p .state) ∙ only-taking t s xs a b n NoCode refl (p .before) (p .next)
+only t s xs a b All n p = only-sound t s xs a b All n refl p
+only t s xs a b NoRoom n p = only-sound t s xs a b NoRoom n refl p
+only t s xs a b NoCode n p = only-sound t s xs a b NoCode n refl p
 only t s xs a b Unsound n p = rw (p .state, p .next)
 
 module _ (t : Stream) (s : State) (xs : List ℕ) (a b : ℕ) where

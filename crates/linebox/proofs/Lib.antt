@@ -7,3 +7,4 @@ pub mod Rest
 pub mod Most
 pub mod Ending
 pub mod Cutting
+pub mod Reached
