@@ -1,6 +1,6 @@
 -- A sound string brings the carriage home before anything moves it: so no ending starts another.
 -- Assumes nothing.
-use Prim.Native.Nat.{ℕ, suc, _+_, _≤_, _<_}
+use Prim.Native.Nat.{ℕ, suc, _+_, _≤_}
 use mathlib.Core.Path.{_≡_, refl, ap}
 use mathlib.Core.Bool.{Bool, true, false, cond, _||_, _&&_, false≢true}
 use mathlib.Core.List.{List, [], _∷_, _++_}
@@ -10,16 +10,12 @@ use lib.ListN.{length}
 use borrow.Author.Tests.{eqb-true, leb-true}
 use Rattle.laws.proofs.Both.{both}
 use Rattle.code.specs.Rows.{rowAt}
-use Rattle.code.specs.Kinds.{kindOf, strikes, shifts}
-use Rattle.code.proofs.Laws.{kind-shift}
+use Rattle.code.specs.Kinds.{kindOf, shifts}
 use Rattle.settings.specs.Table.{allCodes, padded, opens, soundString, soundSettings}
-use Rattle.printer.specs.Printer.{advanced, hearCount, hear, hears}
-use Rattle.sender.specs.Record.{next, noteChar, noteColumn, noteKind, note, notes}
-use Rattle.sender.specs.Code.{shiftTo, unshift, sendKind, sendAs}
-use Rattle.sender.specs.Ending.{onRecord, endingCode, endingOf, untilZero}
-use Rattle.agree.specs.Names.{Case, Letters, Figures, Kind, Still, Space, Return, Shift, Char, Settings, Printer, Known, Is, Column, At, Record}
-use Rattle.agree.specs.Names.known
-use Rattle.agree.specs.Names.column
+use Rattle.sender.specs.Record.{noteColumn, noteKind, note, notes}
+use Rattle.sender.specs.Code.{unshift, sendKind}
+use Rattle.sender.specs.Ending.{onRecord, endingOf, untilZero}
+use Rattle.agree.specs.Names.{Kind, Still, Space, Return, Shift, Char, Settings, Record}
 use Rattle.agree.proofs.Weights.{weight, weight-append, weight-shifts, weight-ending, places, column-reach}
 
 -- Codes that bring the carriage home: nothing moves it before the first return, and what follows weighs at most m.
@@ -53,12 +49,13 @@ unfolding kindOf rowAt
 sound-opens [] h = absurd (false≢true h)
 sound-opens (c ∷ cs) h = go (eqb c 8) (eqb c 2) (eqb c 27) (eqb c 31) refl refl refl refl (sound-opens cs) h
   where
-    go : (cr lf figs ltrs : Bool) → eqb c 8 ≡ cr → eqb c 2 ≡ lf → eqb c 27 ≡ figs → eqb c 31 ≡ ltrs → (opens cs ≡ true → opening (untilZero cs) ≡ true) → (cr || ((lf || (figs || ltrs)) && opens cs)) ≡ true → opening (untilZero (c ∷ cs)) ≡ true
-    go true lf figs ltrs e2 e3 e4 e5 rest h = rw (eqb-true c 8 e2)
-    go false true figs ltrs e2 e3 e4 e5 rest h = rw (eqb-true c 2 e3) (rest h)
-    go false false true ltrs e2 e3 e4 e5 rest h = rw (eqb-true c 27 e4) (rest h)
-    go false false false true e2 e3 e4 e5 rest h = rw (eqb-true c 31 e5) (rest h)
-    go false false false false e2 e3 e4 e5 rest h = absurd (false≢true h)
+    go : (cr lf figs ltrs : Bool) → eqb c 8 ≡ cr → eqb c 2 ≡ lf → eqb c 27 ≡ figs → eqb c 31 ≡ ltrs → (opens cs ≡ true → opening (untilZero cs) ≡ true)
+        → (cr || ((lf || (figs || ltrs)) && opens cs)) ≡ true → opening (untilZero (c ∷ cs)) ≡ true
+    go true lf figs ltrs a b d e rest h = rw (eqb-true c 8 a)
+    go false true figs ltrs a b d e rest h = rw (eqb-true c 2 b) (rest h)
+    go false false true ltrs a b d e rest h = rw (eqb-true c 27 d) (rest h)
+    go false false false true a b d e rest h = rw (eqb-true c 31 e) (rest h)
+    go false false false false a b d e rest h = absurd (false≢true h)
 
 until-short : (cs : List ℕ) → length (untilZero cs) ≤ length cs
 until-short [] = omega arith

@@ -2,7 +2,7 @@
 -- being letters; of two items only one has an ending.
 -- Assumes nothing.
 use Prim.Native.Nat.{ℕ, _+_, _*_, _≤_, _<_}
-use mathlib.Core.Path.{_≡_, refl}
+use mathlib.Core.Path.{_≡_}
 use mathlib.Core.Bool.{Bool, true, false, _&&_, and-false}
 use mathlib.Core.List.{List, [], _∷_, _++_, append-nil}
 use native.Mathlib.Omega.{arith}
@@ -98,7 +98,8 @@ module _ (o : Settings) (t : Sound o) where
       let e = endingBefore o (s .held) w in
       let n = notes o (s .held) e .case in
       item-cases o s w (λ cs. length cs ≤ 14) (omega arith)
-      (rw (length-append e (sendAs o n (w .case) (w .code))) (omega (arith, ending-most (s .held) (moves (w .case) (kindOf (w .code)) && due o (s .held .column)), code-length o n (w .case) (w .code))))
+      (rw (length-append e (sendAs o n (w .case) (w .code)))
+      (omega (arith, ending-most (s .held) (moves (w .case) (kindOf (w .code)) && due o (s .held .column)), code-length o n (w .case) (w .code))))
 
   -- with no ending due
   item-short : (s : Sender) (w : Wanted) → due o (s .held .column) ≡ false → length (item o s w) ≤ 2
@@ -120,8 +121,10 @@ module _ (o : Settings) (t : Sound o) where
           let e = ending o (s .held) true in
           let r = notes o (s .held) e in
           let x = sendAs o (r .case) (w .case) (w .code) in
-          let low : places (notes o (s .held) (e ++ x) .column) < 10 = rw (notes-append o (s .held) e x) (omega (arith, due-ends o t (s .held), column-reach o r x, weight-code o (r .case) (w .case) (w .code))) in
-          omega (arith, length-append e x, ending-most (s .held) true, code-length o (r .case) (w .case) (w .code), item-short (after (e ++ x)) v (low-not-due o t (notes o (s .held) (e ++ x) .column) low))
+          let col = notes o (s .held) (e ++ x) .column in
+          let low : places col < o .limit = rw (notes-append o (s .held) e x) (omega (arith, due-ends o t (s .held), column-reach o r x, weight-code o (r .case) (w .case) (w .code), t .least)) in
+          let short = item-short (after (e ++ x)) v (low-not-due o t col low) in
+          omega (arith, length-append e x, ending-most (s .held) true, code-length o (r .case) (w .case) (w .code), short)
       go false =
           let x = sendAs o (s .held .case) (w .case) (w .code) in
           omega (arith, code-length o (s .held .case) (w .case) (w .code), item-most (after x) v)

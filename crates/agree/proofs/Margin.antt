@@ -97,11 +97,9 @@ module _ (o : Settings) (t : Sound o) where
   pub due-ends : (r : Record) → places (notes o r (ending o r true) .column) ≤ 7
   due-ends r = home-column 7 o (endingOf o r (untilZero (o .string))) (t .home r) r
 
-  pub low-not-due : (col : Column) → places col < 10 → due o col ≡ false
+  pub low-not-due : (col : Column) → places col < o .limit → due o col ≡ false
   low-not-due column.Unknown h = refl
-  low-not-due (At n) h =
-      let l : n < o .limit = omega (arith, t .least) in
-      rw (lt-leb (o .limit) n l) (and-false (o .endings))
+  low-not-due (At n) h = rw (lt-leb (o .limit) n h) (and-false (o .endings))
 
   module _ (on : o .endings ≡ true) (r : Record) (w : Wanted) where
     below-limit : moves (w .case) (kindOf (w .code)) ≡ true → places (notes o r (endingBefore o r w) .column) < o .limit

@@ -77,5 +77,6 @@ one-mark (Shift to) m h = cc
 one-mark (Char bell) m h = refl
 
 -- one that is no shift: its character, after exactly what the ending prints
-pub one-printed : (o : Settings) (r : Record) (p : Printer) (w : Wanted) → lastOf (kindOf (w .code)) ≡ last.Other → printed o r p w ≡ sheet p (endingBefore o r w) ++ mark (hears p (endingBefore o r w)) w ∷ []
+pub one-printed : (o : Settings) (r : Record) (p : Printer) (w : Wanted) → lastOf (kindOf (w .code)) ≡ last.Other
+    → printed o r p w ≡ sheet p (endingBefore o r w) ++ mark (hears p (endingBefore o r w)) w ∷ []
 one-printed o r p w h = ap (λ ms. sheet p (endingBefore o r w) ++ ms) (one-mark (kindOf (w .code)) (mark (hears p (endingBefore o r w)) w) h)

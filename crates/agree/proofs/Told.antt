@@ -3,18 +3,17 @@
 -- Assumes nothing.
 use Prim.Native.Nat.{ℕ}
 use mathlib.Core.Path.{_≡_, refl, sym, _∙_}
-use mathlib.Core.Bool.{Bool, true, false, cond, _&&_, _||_, false≢true, or-false, or-assoc}
+use mathlib.Core.Bool.{Bool, true, false, cond, _&&_, _||_, or-false, or-assoc}
 use mathlib.Core.List.{List, [], _∷_, _++_}
 use Rattle.code.specs.Kinds.{kindOf, strikes, moves, shifts}
 use Rattle.code.proofs.Laws.{kind-shift}
 use Rattle.sender.specs.Record.{next, notes}
 use Rattle.sender.specs.Code.{shiftTo, unshift, sendKind, sendAs}
 use Rattle.sender.specs.Ending.{onRecord, endingCode, endingOf, untilZero, due, ending, endingBefore}
-use Rattle.sender.specs.Item.{character, item, afterItem, items, afterItems}
+use Rattle.sender.specs.Item.{item, afterItem, items, afterItems}
 use Rattle.sender.specs.After.{afterUnshift, afterCase, afterColumn}
 use Rattle.sender.proofs.Sends.{notes-append}
-use Rattle.agree.specs.Names.{Case, Letters, Kind, Still, Space, Return, Shift, Char, Settings, Known, Is, Column, At, Record, Wanted, Sender}
-use Rattle.agree.specs.Names.known
+use Rattle.agree.specs.Names.{Case, Kind, Still, Space, Return, Shift, Char, Settings, Known, Column, At, Record, Wanted, Sender}
 use Rattle.agree.specs.Names.column
 use Rattle.agree.specs.Sure.{ColumnSure, CaseSure, isReturn, isCased, holds}
 use Rattle.agree.proofs.After.{record-after}
@@ -101,7 +100,8 @@ pub ending-keeps : (o : Settings) (r : Record) (w : Wanted) → ColumnSure (r .c
 ending-keeps o r w f = told-before o (λ q. ColumnSure (q .column)) isReturn (column-code o) r w true (λ h. f) refl
 
 -- on record before, or a return among the codes of the items: on record after them
-pub column-told : (o : Settings) (s : Sender) (ws : List Wanted) (b : Bool) → (b ≡ true → ColumnSure (s .held .column)) → (b || holds isReturn (items o s ws)) ≡ true → ColumnSure (afterItems o s ws .held .column)
+pub column-told : (o : Settings) (s : Sender) (ws : List Wanted) (b : Bool) → (b ≡ true → ColumnSure (s .held .column))
+    → (b || holds isReturn (items o s ws)) ≡ true → ColumnSure (afterItems o s ws .held .column)
 column-told o s ws b before h = rw (items-noted o s ws) (told-items o (λ q. ColumnSure (q .column)) isReturn (column-code o) s ws b before h)
 
 -- The case: a shift or a code that depends on case tells it.
@@ -123,5 +123,6 @@ case-code o r want c b before h = rw (record-after o r want c) (go (kindOf c) re
     go (Shift to) e h = tt
     go (Char bell) e h = tt
 
-pub case-told : (o : Settings) (s : Sender) (ws : List Wanted) (b : Bool) → (b ≡ true → CaseSure (s .held .case)) → (b || holds isCased (items o s ws)) ≡ true → CaseSure (afterItems o s ws .held .case)
+pub case-told : (o : Settings) (s : Sender) (ws : List Wanted) (b : Bool) → (b ≡ true → CaseSure (s .held .case))
+    → (b || holds isCased (items o s ws)) ≡ true → CaseSure (afterItems o s ws .held .case)
 case-told o s ws b before h = rw (items-noted o s ws) (told-items o (λ q. CaseSure (q .case)) isCased (case-code o) s ws b before h)

@@ -1,22 +1,17 @@
 -- How far codes carry a carriage: each kind has a weight, and an ending weighs at most its string's length.
 -- Assumes nothing.
-use Prim.Native.Nat.{ℕ, suc, _+_, _≤_, _<_}
-use mathlib.Core.Path.{_≡_, refl, ap}
-use mathlib.Core.Bool.{Bool, true, false, cond, _||_, _&&_, false≢true}
+use Prim.Native.Nat.{ℕ, _+_, _≤_}
+use mathlib.Core.Path.{_≡_, refl}
+use mathlib.Core.Bool.{Bool, true, false}
 use mathlib.Core.List.{List, [], _∷_, _++_}
 use native.Mathlib.Omega.{arith}
-use lib.Dec.{eqb, leb}
 use lib.ListN.{length}
-use borrow.Author.Tests.{eqb-true, leb-true}
-use Rattle.laws.proofs.Both.{both}
-use Rattle.code.specs.Rows.{rowAt}
 use Rattle.code.specs.Kinds.{kindOf, strikes, shifts}
 use Rattle.code.proofs.Laws.{kind-shift}
-use Rattle.settings.specs.Table.{allCodes, padded, opens, soundString, soundSettings}
-use Rattle.printer.specs.Printer.{advanced, hearCount, hear, hears}
-use Rattle.sender.specs.Record.{next, noteChar, noteColumn, noteKind, note, notes}
+use Rattle.printer.specs.Printer.{advanced, hearCount}
+use Rattle.sender.specs.Record.{next, noteChar, noteColumn, note, notes}
 use Rattle.sender.specs.Code.{shiftTo, unshift, sendKind, sendAs}
-use Rattle.sender.specs.Ending.{onRecord, endingCode, endingOf, untilZero}
+use Rattle.sender.specs.Ending.{onRecord, endingCode, endingOf}
 use Rattle.agree.specs.Names.{Case, Letters, Figures, Kind, Still, Space, Return, Shift, Char, Settings, Printer, Known, Is, Column, At, Record}
 use Rattle.agree.specs.Names.known
 use Rattle.agree.specs.Names.column

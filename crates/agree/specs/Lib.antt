@@ -3,3 +3,4 @@ pub mod Agrees
 pub mod Margin
 pub mod Sure
 pub mod Asked
+pub mod Traces
