@@ -1,2 +1,3 @@
 pub mod OurBox
 pub mod ItemCodes
+pub mod Sessions
