@@ -30,7 +30,7 @@ lines-append s (e ∷ es) fs =
     ap (λ (r : List ℕ). x .line ++ r) (lines-append (x .state) es fs) ∙ sym (append-assoc (x .line) (lines (x .state) es) (lines (run (x .state) es) fs))
 
 -- a line code sends nothing to the line
-lined-none : (k : Connection) (s : State) (c : ℕ) → lined k s c .line ≡ []
+pub lined-none : (k : Connection) (s : State) (c : ℕ) → lined k s c .line ≡ []
 lined-none (Mode1 port speed) s c = refl
 lined-none (Mode4 port speed) s c = refl
 lined-none Mode10 s c = refl
