@@ -5,3 +5,4 @@ pub mod Sending
 pub mod Reading
 pub mod Landing
 pub mod Story
+pub mod Traces

@@ -6,3 +6,4 @@ pub mod ItemCodes
 pub mod Session
 pub mod Asks
 pub mod Story
+pub mod Traces
