@@ -6,3 +6,5 @@ pub mod Reading
 pub mod Landing
 pub mod Story
 pub mod Traces
+pub mod ReadingBack
+pub mod Lent

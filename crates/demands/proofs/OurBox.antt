@@ -114,7 +114,7 @@ promised t s xs one two now₁ now₂ r p = rw (p .gives, p .one, p .two)
 -- Nothing else meets it.
 
 -- the bytes taken are those counted
-front : (xs taken rest : List ℕ) (n : ℕ) → xs ≡ taken ++ rest → n ≡ length taken → take n xs ≡ taken
+pub front : (xs taken rest : List ℕ) (n : ℕ) → xs ≡ taken ++ rest → n ≡ length taken → take n xs ≡ taken
 front xs taken rest n e l = rw e (take-at taken rest n (sym l))
 
 -- what meets demand 1 is our box's result

@@ -14,16 +14,13 @@ use Rattle.linebox.specs.Call.{Done}
 use Rattle.linebox.specs.Ends.{events, outputs, outcome}
 use Rattle.linebox.proofs.Ending.{folds}
 use Rattle.demands.specs.Session.{Given, ended, toLine, left, taken, written}
+use Rattle.demands.specs.Lent.{lines}
 
--- what bytes send to the line
-abbrev pub lines : State → List Event → List ℕ
-lines s es = outputs (λ (x : Step). x .line) (steps s es)
-
-run-append : (s : State) (es fs : List Event) → run s (es ++ fs) ≡ run (run s es) fs
+pub run-append : (s : State) (es fs : List Event) → run s (es ++ fs) ≡ run (run s es) fs
 run-append s [] fs = refl
 run-append s (e ∷ es) fs = run-append (step (e .stream) s (e .byte) .state) es fs
 
-lines-append : (s : State) (es fs : List Event) → lines s (es ++ fs) ≡ lines s es ++ lines (run s es) fs
+pub lines-append : (s : State) (es fs : List Event) → lines s (es ++ fs) ≡ lines s es ++ lines (run s es) fs
 lines-append s [] fs = refl
 lines-append s (e ∷ es) fs =
     let x = step (e .stream) s (e .byte) in
@@ -36,7 +33,7 @@ lined-none (Mode4 port speed) s c = refl
 lined-none Mode10 s c = refl
 lined-none Mode11 s c = refl
 
-line-none : (s : State) (xs : List ℕ) → lines s (events Line xs) ≡ []
+pub line-none : (s : State) (xs : List ℕ) → lines s (events Line xs) ≡ []
 line-none s [] = refl
 line-none s (x ∷ xs) = rw (lined-none (s .connection) s x) (line-none (step Line s x .state) xs)
 

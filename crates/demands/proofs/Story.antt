@@ -24,7 +24,8 @@ use Rattle.linebox.proofs.Stays.{sound-parts, sound-step, fresh-sound}
 use Rattle.demands.specs.Session.{Given, left, taken, written}
 use Rattle.demands.specs.Asks.{asks, asksAll}
 use Rattle.demands.specs.Story.{connects, Turn, eventsOf, Scene, start, does, turned, after, lineOf, sheetOf, Obedient, charactersOf, itemsOf, Within, Keeps, Holds, Off, Demand}
-use Rattle.demands.proofs.Sessions.{lines, session-state, session-lines}
+use Rattle.demands.specs.Lent.{lines}
+use Rattle.demands.proofs.Sessions.{session-state, session-lines}
 use Rattle.demands.proofs.Sending.{line-items, sender-items}
 use Rattle.demands.proofs.Reading.{items-read, characters-append, plain-items}
 use Rattle.demands.proofs.Landing.{items-within}

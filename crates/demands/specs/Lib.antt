@@ -7,3 +7,5 @@ pub mod Session
 pub mod Asks
 pub mod Story
 pub mod Traces
+pub mod Lent
+pub mod ReadingBack
