@@ -8,3 +8,4 @@ pub mod Story
 pub mod Traces
 pub mod ReadingBack
 pub mod Lent
+pub mod OnRecord

@@ -19,9 +19,10 @@ use Rattle.agree.proofs.Folds.{sheet-append, items-noted}
 use Rattle.agree.proofs.Prints.{items-print}
 use Rattle.linebox.specs.State.{withReader, withReading}
 use Rattle.linebox.specs.Step.{readAs, readCase, hosted, lined, tued, step, Event, run}
-use Rattle.linebox.specs.Ends.{firstsOf}
+use Rattle.linebox.specs.Ends.{events, firstsOf, Cut, Fed, feeding}
 use Rattle.linebox.specs.Laws.{isMode1}
 use Rattle.linebox.proofs.Rest.{commanded-keeps}
+use Rattle.linebox.proofs.Cutting.{cutting}
 use Rattle.demands.specs.Names.{Case, Letters, Kind, Still, Space, Return, Shift, Char, Settings, Connection, Mode1, Mode4, Mode10, Mode11, Printer, Reader, Out, Nothing, One, Two, Finished, State, Stream, Host, Line, Tu, Wanted, Sender}
 use Rattle.demands.specs.Asks.{textBytes, hostAsks, tuAsks, asksBy, asks, asksAll}
 use Rattle.demands.specs.Story.{connecting, connectsBy, connects, charactersOf, itemsOf}
@@ -139,6 +140,10 @@ tued-reader Mode11 s c = refl
 
 -- What plain events ask for is their text.
 
+host-bytes : (xs : List ℕ) → hostBytes (events Host xs) ≡ xs
+host-bytes [] = refl
+host-bytes (x ∷ xs) = ap (λ (r : List ℕ). x ∷ r) (host-bytes xs)
+
 text-append : (xs ys : List ℕ) → textBytes (xs ++ ys) ≡ textBytes xs ++ textBytes ys
 text-append [] ys = refl
 text-append (x ∷ xs) ys = rw (text-append xs ys, append-assoc)
@@ -198,3 +203,11 @@ module _ (s : State) (e : Event) (j : Joins s e) where
       go (Mode4 port speed) c m (x ∷ es) h = absurd (false≢true m)
       go Mode10 c m (x ∷ es) h = absurd (false≢true m)
       go Mode11 c m (x ∷ es) h = absurd (false≢true m)
+
+  -- The same of one host stream, cut into calls in any way and with any rooms, each going on at the first byte not taken.
+  pub cut-reads-back : (xs : List ℕ) (cs : List Cut) → AllPlain joined (events Host xs) → feeding Host joined xs cs .taken ≡ length xs
+      → readBack joined (feeding Host joined xs cs .first) ≡ textBytes (texts (made (joined .reader) xs))
+  cut-reads-back xs cs h all =
+      ap (λ (f : Fed). readBack joined (f .first)) (cutting Host joined xs cs all)
+      ∙ reads-back (events Host xs) h
+      ∙ ap (λ (bs : List ℕ). textBytes (texts (made (joined .reader) bs))) (host-bytes xs)

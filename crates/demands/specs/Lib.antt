@@ -8,4 +8,5 @@ pub mod Asks
 pub mod Story
 pub mod Traces
 pub mod Lent
+pub mod OnRecord
 pub mod ReadingBack
