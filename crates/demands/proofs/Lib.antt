@@ -9,3 +9,4 @@ pub mod Traces
 pub mod ReadingBack
 pub mod Lent
 pub mod OnRecord
+pub mod WrongBoxes

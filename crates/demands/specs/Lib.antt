@@ -10,3 +10,4 @@ pub mod Traces
 pub mod Lent
 pub mod OnRecord
 pub mod ReadingBack
+pub mod WrongBoxes
