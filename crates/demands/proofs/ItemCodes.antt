@@ -1,6 +1,6 @@
 -- Demand 2 of an item, by its kind and by each test of the sender.
 -- Assumes nothing.
-use Prim.Native.Nat.{ℕ, _≤_}
+use Prim.Native.Nat.{ℕ}
 use mathlib.Core.Path.{_≡_, refl, sym, _∙_, subst}
 use mathlib.Core.Bool.{Bool, true, false, cond, _&&_, false≢true}
 use mathlib.Core.List.{List, [], _∷_, _++_}
@@ -9,9 +9,9 @@ use borrow.Author.Tests.{leb-true, le-leb}
 use Rattle.laws.proofs.Both.{both}
 use Rattle.code.specs.Kinds.{kindOf, dependent, moves, shift, shifts}
 use Rattle.sender.specs.Record.{notes}
-use Rattle.sender.specs.Code.{isCase, shiftTo, shiftFor, unshift, follow, sendKind, sendAs}
+use Rattle.sender.specs.Code.{isCase, shiftTo, shiftFor, unshift, follow, sendAs}
 use Rattle.sender.specs.Ending.{onRecord, endingCode, endingOf, untilZero, due, ending, endingBefore}
-use Rattle.sender.specs.Item.{character, lastOf, repeats, item}
+use Rattle.sender.specs.Item.{lastOf, repeats, item}
 use Rattle.agree.specs.Sure.{CaseSure}
 use Rattle.demands.specs.Names.{Case, Letters, Figures, Kind, Still, Space, Return, Shift, Char, Settings, Known, Is, Column, At, Record, Last, Wanted, Sender}
 use Rattle.demands.specs.Names.known

@@ -6,13 +6,13 @@ use mathlib.Core.List.{List, [], _∷_, _++_}
 use lib.ListN.{length, take, drop}
 use lib.Seq.{take-at, drop-at}
 use Rattle.laws.specs.Written.{fronted}
-use Rattle.linebox.specs.Step.{Step, step, Event, run}
-use Rattle.linebox.specs.Ends.{events, stateOf, firstsOf}
+use Rattle.linebox.specs.Step.{step, Event, run}
+use Rattle.linebox.specs.Ends.{events, firstsOf}
 use Rattle.demands.specs.Names.{State, Stream, Host, Line, Tu}
 use Rattle.demands.specs.Box.{Result, Box, ours}
 use Rattle.demands.specs.EveryCall.{EveryCall, Ended}
 use Rattle.demands.specs.Lent.{lines, Lent, result, took, sentBy, sent, tookAll, sentAll}
-use Rattle.demands.specs.ReadingBack.{readBack, plainText, AllPlain, Joins, ReadingBack}
+use Rattle.demands.specs.ReadingBack.{readBack, ReadingBack}
 use Rattle.demands.proofs.Sessions.{lines-append, line-none}
 use Rattle.demands.proofs.OurBox.{front, ours-every-call}
 use Rattle.demands.proofs.ReadingBack.{fresh-by, reads-back}
@@ -52,10 +52,10 @@ module _ (box : Box) (meets : EveryCall box) where
       let s = run start before in
       let x = step (e .stream) s (e .byte) in
       let all : sentAll box start gs ≡ lines start before ++ lines (x .state) after =
-            all-sent start gs
-            ∙ ap (lines start) split
-            ∙ lines-append start before (e ∷ after)
-            ∙ ap (λ (u : List ℕ). lines start before ++ (u ++ lines (x .state) after)) (fresh-by (e .stream) s (e .byte) (j .connects) .1) in
+      all-sent start gs
+      ∙ ap (lines start) split
+      ∙ lines-append start before (e ∷ after)
+      ∙ ap (λ (u : List ℕ). lines start before ++ (u ++ lines (x .state) after)) (fresh-by (e .stream) s (e .byte) (j .connects) .1) in
       ap (λ (u : List ℕ). readBack (x .state) (drop (length (lines start before)) u)) all
       ∙ ap (readBack (x .state)) (drop-at (lines start before) (lines (x .state) after) (length (lines start before)) refl)
       ∙ reads-back s e j after h

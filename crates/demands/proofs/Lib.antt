@@ -10,3 +10,4 @@ pub mod ReadingBack
 pub mod Lent
 pub mod OnRecord
 pub mod WrongBoxes
+pub mod ReadingExample

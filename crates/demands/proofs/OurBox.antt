@@ -1,8 +1,7 @@
 -- Demand 1 of our box, from the laws of how a call ends: a count of bytes taken and a split of the input say the same.
 -- Assumes nothing.
-use Prim.Native.Nat.{ℕ, suc, _+_, _-_, _≤_, _<_, min}
+use Prim.Native.Nat.{ℕ, suc, _+_, _≤_, _<_, min}
 use mathlib.Core.Path.{_≡_, refl, sym, ap, _∙_}
-use mathlib.Core.Bool.{true, false}
 use mathlib.Core.List.{List, [], _∷_, _++_, append-assoc, append-nil}
 use native.Mathlib.Omega.{arith}
 use native.Mathlib.Nat.{le-of-eq}
@@ -11,12 +10,12 @@ use lib.Seq.{drop-cons, split-at, take-at, getD-at, length-take-le}
 use Rattle.laws.specs.Written.{fronted}
 use Rattle.linebox.specs.Call.{Done, call}
 use Rattle.linebox.specs.Byte.{Calls}
-use Rattle.linebox.specs.Ends.{stateOf, firstsOf, secondsOf, outcome, When, Takes, Ends}
+use Rattle.linebox.specs.Ends.{outcome, When, Takes, Ends}
 use Rattle.linebox.proofs.Ending.{ends, folds, only, within}
 use Rattle.demands.specs.Names.{State, Stream, Answer, All, NoRoom, NoCode, Unsound, Called}
 use Rattle.demands.specs.Box.{Result, Box, resulting, ours}
 use Rattle.demands.specs.ExactCodes.{ExactCodes}
-use Rattle.demands.specs.EveryCall.{noCode, hasRoom, Goes, Exactly, Splits, Ended, EveryCall}
+use Rattle.demands.specs.EveryCall.{Goes, Exactly, Splits, Ended, EveryCall}
 
 module _ (t : Stream) (s : State) (a b : ℕ) where
   -- A byte and those before it.
@@ -46,11 +45,11 @@ module _ (t : Stream) (s : State) (a b : ℕ) where
     whole = sym (take-append-drop n xs);
     state = h .state;
     each = λ before x others e.
-      let l : length (take n xs) ≡ length before + suc (length others) = rw e (length-append before (x ∷ others)) in
-      let m : length (take n xs) ≡ min n (length xs) = length-take n xs in
-      let i : length before < n = omega (arith, l, m) in
-      let f : xs ≡ before ++ (x ∷ (others ++ drop n xs)) = sym (take-append-drop n xs) ∙ ap (λ (r : List ℕ). r ++ drop n xs) e ∙ append-assoc before (x ∷ others) (drop n xs) in
-      goes xs before x (others ++ drop n xs) (length before) f refl (h .before (length before) i);
+        let l : length (take n xs) ≡ length before + suc (length others) = rw e (length-append before (x ∷ others)) in
+        let m : length (take n xs) ≡ min n (length xs) = length-take n xs in
+        let i : length before < n = omega (arith, l, m) in
+        let f : xs ≡ before ++ (x ∷ (others ++ drop n xs)) = sym (take-append-drop n xs) ∙ ap (λ (r : List ℕ). r ++ drop n xs) e ∙ append-assoc before (x ∷ others) (drop n xs) in
+        goes xs before x (others ++ drop n xs) (length before) f refl (h .before (length before) i);
     next = exactly xs n w (h .next);
   }
 
@@ -74,10 +73,10 @@ module _ (t : Stream) (s : State) (a b : ℕ) where
   counts xs w taken rest h = record {
     state = h .state;
     before = λ i l.
-      let e : taken ≡ take i taken ++ (getD taken i 0 ∷ drop (suc i) taken) = split-at taken i 0 l in
-      let f : xs ≡ take i taken ++ (getD taken i 0 ∷ (drop (suc i) taken ++ rest)) = h .whole ∙ ap (λ (r : List ℕ). r ++ rest) e ∙ append-assoc (take i taken) (getD taken i 0 ∷ drop (suc i) taken) rest in
-      let m : i ≤ length taken = omega (arith, l) in
-      takes xs (take i taken) (getD taken i 0) (drop (suc i) taken ++ rest) i f (length-take-le i taken m) (h .each (take i taken) (getD taken i 0) (drop (suc i) taken) e);
+        let e : taken ≡ take i taken ++ (getD taken i 0 ∷ drop (suc i) taken) = split-at taken i 0 l in
+        let f : xs ≡ take i taken ++ (getD taken i 0 ∷ (drop (suc i) taken ++ rest)) = h .whole ∙ ap (λ (r : List ℕ). r ++ rest) e ∙ append-assoc (take i taken) (getD taken i 0 ∷ drop (suc i) taken) rest in
+        let m : i ≤ length taken = omega (arith, l) in
+        takes xs (take i taken) (getD taken i 0) (drop (suc i) taken ++ rest) i f (length-take-le i taken m) (h .each (take i taken) (getD taken i 0) (drop (suc i) taken) e);
     next = rw (h .whole) (when taken rest w (h .next));
   }
 
@@ -135,7 +134,7 @@ pub exactly-when : (x : Box) → EveryCall x → (t : Stream) (s : State) (xs on
     → (x t s xs one two .gives .answer ≡ w) × (x t s xs one two .gives .taken ≡ length taken)
 exactly-when x p t s xs one two w taken rest h =
     let e = ended-ours t s xs one two (x t s xs one two) (p t s xs one two)
-        ∙ ap (λ (d : Done). resulting d one two) (only t s xs (length one) (length two) w (length taken) (counts t s (length one) (length two) xs w taken rest h)) in
+    ∙ ap (λ (d : Done). resulting d one two) (only t s xs (length one) (length two) w (length taken) (counts t s (length one) (length two) xs w taken rest h)) in
     (ap (λ (r : Result). r .gives .answer) e, ap (λ (r : Result). r .gives .taken) e)
 
 -- Demand 2 follows from demand 1.

@@ -3,14 +3,13 @@
 -- Assumes nothing.
 use Prim.Native.Nat.{ℕ, _+_}
 use mathlib.Core.Path.{_≡_, refl, sym, ap, _∙_}
-use mathlib.Core.Bool.{Bool, true, false, cond, false≢true, true≢false}
+use mathlib.Core.Bool.{Bool, true, false, cond, false≢true}
 use mathlib.Core.List.{List, [], _∷_, _++_, append-assoc}
-use lib.ListN.{length, take, drop}
+use lib.ListN.{length}
 use Rattle.code.specs.Rows.{rowAt}
 use Rattle.code.specs.Kinds.{kindOf, strikes}
 use Rattle.command.specs.Read.{read, textOf}
 use Rattle.command.specs.Reads.{made}
-use Rattle.settings.specs.Command.{commanded}
 use Rattle.printer.specs.Printer.{advanced, hearKind, hear, hears, from, markAs, printsAs, sheet}
 use Rattle.sender.specs.Item.{items, afterItems, fresh}
 use Rattle.agree.specs.Agrees.{Agrees, ObeysAt, Obeys}
@@ -18,16 +17,16 @@ use Rattle.agree.proofs.Agreement.{agreement, unknown-agrees}
 use Rattle.agree.proofs.Folds.{sheet-append, items-noted}
 use Rattle.agree.proofs.Prints.{items-print}
 use Rattle.linebox.specs.State.{withReader, withReading}
-use Rattle.linebox.specs.Step.{readAs, readCase, hosted, lined, tued, step, Event, run}
+use Rattle.linebox.specs.Step.{readAs, readCase, hosted, lined, tued, step, Event}
 use Rattle.linebox.specs.Ends.{events, firstsOf, Cut, Fed, feeding}
 use Rattle.linebox.specs.Laws.{isMode1}
 use Rattle.linebox.proofs.Rest.{commanded-keeps}
 use Rattle.linebox.proofs.Cutting.{cutting}
-use Rattle.demands.specs.Names.{Case, Letters, Kind, Still, Space, Return, Shift, Char, Settings, Connection, Mode1, Mode4, Mode10, Mode11, Printer, Reader, Out, Nothing, One, Two, Finished, State, Stream, Host, Line, Tu, Wanted, Sender}
+use Rattle.demands.specs.Names.{Case, Letters, Kind, Still, Space, Return, Shift, Char, Settings, Connection, Mode1, Mode4, Mode10, Mode11, Printer, Reader, Out, Nothing, One, Two, Finished, State, Stream, Host, Line, Tu}
 use Rattle.demands.specs.Asks.{textBytes, hostAsks, tuAsks, asksBy, asks, asksAll}
 use Rattle.demands.specs.Story.{connecting, connectsBy, connects, charactersOf, itemsOf}
 use Rattle.demands.specs.Lent.{lines}
-use Rattle.demands.specs.ReadingBack.{readBack, hostByte, hostBytes, texts, plainText, Plain, AllPlain, Joins}
+use Rattle.demands.specs.ReadingBack.{readBack, hostByte, hostBytes, texts, plainText, AllPlain, Joins}
 use Rattle.demands.proofs.Sending.{line-items, sender-items}
 use Rattle.demands.proofs.Reading.{items-read, characters-append, plain-items}
 
@@ -82,10 +81,10 @@ plain-reads s p (x ∷ es) e f a h =
     let d = step (x .stream) s (x .byte) in
     let obeys : Obeys o p (items o (s .sender) ws) = never o p (items o (s .sender) ws) e f in
     let one : charactersOf (sheet p (d .line)) ≡ asks s x =
-          ap (λ (cs : List ℕ). charactersOf (sheet p cs)) (line-items s x)
-          ∙ ap charactersOf (items-print o (s .sender) p ws obeys a)
-          ∙ plain-items o (h .0 .endings) (s .sender) p ws
-          ∙ items-read s x in
+    ap (λ (cs : List ℕ). charactersOf (sheet p cs)) (line-items s x)
+    ∙ ap charactersOf (items-print o (s .sender) p ws obeys a)
+    ∙ plain-items o (h .0 .endings) (s .sender) p ws
+    ∙ items-read s x in
     let after : d .state .sender ≡ afterItems o (s .sender) ws = sender-items s x ∙ ap (λ (b : Bool). cond b fresh (afterItems o (s .sender) ws)) (h .0 .stays) in
     let heard : Agrees (d .state .sender .held) (hears p (d .line)) = rw (after, items-noted o (s .sender) ws, line-items s x) (agreement o (s .sender .held) p (items o (s .sender) ws) obeys a) in
     ap charactersOf (sheet-append p (d .line) (lines (d .state) es))

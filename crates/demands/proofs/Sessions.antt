@@ -9,9 +9,9 @@ use Rattle.settings.specs.declared.Connection.the-variants.{Mode1, Mode4, Mode1
 use Rattle.linebox.specs.declared.State.{State}
 use Rattle.linebox.specs.declared.Stream.{Stream}
 use Rattle.linebox.specs.declared.Stream.the-variants.{Host, Line, Tu}
-use Rattle.linebox.specs.Step.{Step, lined, step, Event, run, steps}
+use Rattle.linebox.specs.Step.{lined, step, Event, run}
 use Rattle.linebox.specs.Call.{Done}
-use Rattle.linebox.specs.Ends.{events, outputs, outcome}
+use Rattle.linebox.specs.Ends.{events, outcome}
 use Rattle.linebox.proofs.Ending.{folds}
 use Rattle.demands.specs.Session.{Given, ended, toLine, left, taken, written}
 use Rattle.demands.specs.Lent.{lines}

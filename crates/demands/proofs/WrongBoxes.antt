@@ -1,7 +1,7 @@
 -- Each wrong box fails its demand, at inputs where our box computes to something else.
 -- Assumes nothing.
 use Prim.Native.Nat.{ℕ}
-use mathlib.Core.Path.{_≡_, refl, sym, ap, _∙_}
+use mathlib.Core.Path.{_≡_, sym, ap, _∙_}
 use mathlib.Core.List.{List, [], _∷_}
 use native.Mathlib.Omega.{arith}
 use lib.ListN.{getD}
@@ -11,8 +11,7 @@ use Rattle.code.specs.Convert.{conversion}
 use Rattle.settings.specs.Table.{factory, soundString}
 use Rattle.command.specs.Read.{idle}
 use Rattle.sender.specs.Item.{fresh}
-use Rattle.linebox.specs.State.{freshBox}
-use Rattle.demands.specs.Names.{Letters, Mode1, State, Stream, Host, Answer}
+use Rattle.demands.specs.Names.{Letters, Mode1, State, Host, Answer}
 use Rattle.demands.specs.Box.{Result, Box, ours}
 use Rattle.demands.specs.EveryCall.{EveryCall}
 use Rattle.demands.specs.ExactCodes.{ExactCodes}

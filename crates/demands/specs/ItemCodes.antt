@@ -1,7 +1,7 @@
 -- Demand 2, of an item: the codes that it sends, each exactly under the paper's condition.
 use Prim.Native.Nat.{ℕ, _≤_}
 use mathlib.Core.Path.{_≡_}
-use mathlib.Core.Bool.{Bool, true, false}
+use mathlib.Core.Bool.{true}
 use mathlib.Core.List.{List, [], _∷_, _++_}
 use Rattle.code.specs.Kinds.{kindOf, dependent, moves, shift}
 use Rattle.sender.specs.Record.{notes}

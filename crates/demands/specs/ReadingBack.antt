@@ -1,7 +1,7 @@
 -- Demand 3, reading back: what was sent since a mode 1 connection reads as the text since then.
 use Prim.Native.Nat.{ℕ}
 use mathlib.Core.Path.{_≡_}
-use mathlib.Core.Bool.{Bool, true, false}
+use mathlib.Core.Bool.{true, false}
 use mathlib.Core.List.{List, [], _∷_, _++_}
 use lib.ListN.{length, drop}
 use Rattle.command.specs.Read.{textOf}

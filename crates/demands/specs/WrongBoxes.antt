@@ -1,10 +1,10 @@
 -- The boxes that the demands shut out.
-use Prim.Native.Nat.{ℕ, _+_}
-use mathlib.Core.List.{List, [], _∷_}
+use Prim.Native.Nat.{ℕ}
+use mathlib.Core.List.{List, []}
 use lib.ListN.{length, take}
 use Rattle.laws.specs.Written.{fronted}
 use Rattle.linebox.specs.Call.{stopped}
-use Rattle.demands.specs.Names.{State, Stream, Answer, All}
+use Rattle.demands.specs.Names.{Answer}
 use Rattle.demands.specs.Box.{Result, Box, resulting, ours}
 
 -- always stops, with any answer
