@@ -8,11 +8,11 @@ use native.Mathlib.Nat.{le-of-eq}
 use lib.ListN.{length, getD, take, drop, length-append, length-take, take-append-drop, drop-of-length-le}
 use lib.Seq.{drop-cons, split-at, take-at, getD-at, length-take-le}
 use Rattle.laws.specs.Written.{fronted}
-use Rattle.linebox.specs.Call.{Done, call}
-use Rattle.linebox.specs.Byte.{Calls}
+use Rattle.linebox.specs.Call.{Done, call, called}
+use Rattle.linebox.specs.Byte.{Calls, CallsOne}
 use Rattle.linebox.specs.Ends.{outcome, When, Takes, Ends}
-use Rattle.linebox.proofs.Ending.{ends, folds, only, within}
-use Rattle.demands.specs.Names.{State, Stream, Answer, All, NoRoom, NoCode, Unsound, Called}
+use Rattle.linebox.proofs.Ending.{ends, folds, only, one, within, call-fits}
+use Rattle.demands.specs.Names.{State, Stream, Tu, Answer, All, NoRoom, NoCode, Unsound, Called}
 use Rattle.demands.specs.Box.{Result, Box, resulting, ours}
 use Rattle.demands.specs.ExactCodes.{ExactCodes}
 use Rattle.demands.specs.EveryCall.{Goes, Exactly, Splits, Ended, EveryCall}
@@ -110,6 +110,18 @@ pub promised : (t : Stream) (s : State) (xs one two now₁ now₂ : List ℕ) (r
     → ours t s xs one two ≡ record { gives = r; first = now₁; second = now₂ }
 promised t s xs one two now₁ now₂ r p = rw (p .gives, p .one, p .two)
 
+-- A TU call is lent one buffer.
+
+none : (xs : List ℕ) → length xs ≤ 0 → xs ≡ []
+none [] h = refl
+none (x ∷ xs) h = absurd (omega (arith, h))
+
+pub promised-tu : (s : State) (xs one now : List ℕ) (r : Called) → CallsOne (call Tu s xs (length one) 0) one now r → ours Tu s xs one [] ≡ record { gives = r; first = now; second = [] }
+promised-tu s xs one now r p =
+    let d = call Tu s xs (length one) 0 in
+    let e : d .second ≡ [] = none (d .second) (call-fits Tu s xs (length one) 0 .1) in
+    rw (p .gives, p .one) (ap (λ (ys : List ℕ). record { gives = called d; first = fronted one (d .first); second = fronted [] ys }) e)
+
 -- Nothing else meets it.
 
 -- the bytes taken are those counted
@@ -124,6 +136,13 @@ ended-ours t s xs one two r h =
     let e = only t s xs (length one) (length two) (r .gives .answer) n (counts t s (length one) (length two) xs (r .gives .answer) (h .taken) (h .rest) (h .splits)) in
     let u : r ≡ resulting (outcome t s xs (r .gives .answer) n) one two = rw (p, ← h .wrote .first, ← h .wrote .second, ← h .count, ← h .state, ← h .wrote .count-first, ← h .wrote .count-second) refl in
     u ∙ ap (λ (d : Done). resulting d one two) (sym e)
+
+-- exactly one answer stands, after exactly one stretch of bytes taken
+pub one-answer : (t : Stream) (s : State) (xs : List ℕ) (a b : ℕ) (w v : Answer) (taken rest taken′ rest′ : List ℕ) → Splits t s xs a b w taken rest → Splits t s xs a b v taken′ rest′
+    → (w ≡ v) × (taken ≡ taken′)
+one-answer t s xs a b w v taken rest taken′ rest′ h k =
+    let e = one t s xs a b w v (length taken) (length taken′) (counts t s a b xs w taken rest h) (counts t s a b xs v taken′ rest′ k) in
+    (e .0, sym (front xs taken rest (length taken) (h .whole) refl) ∙ front xs taken′ rest′ (length taken) (k .whole) (e .1))
 
 -- two boxes that meet demand 1 agree on every call
 pub every-call-decides : (x y : Box) → EveryCall x → EveryCall y → (t : Stream) (s : State) (xs one two : List ℕ) → x t s xs one two ≡ y t s xs one two
