@@ -27,7 +27,7 @@ sends-by Line s xs one two r h = sym (line-none s (h .taken))
 sends-by Tu s xs one two r h = fronts one (firstsOf Tu s (h .taken)) (r .first) (r .gives .first) (h .wrote .count-first) (h .wrote .first)
 
 module _ (box : Box) (meets : EveryCall box) where
-  took-taken : (s : State) (g : Lent) → let h = meets (g .stream) s (g .bytes) (g .one) (g .two) in took box s g ≡ events (g .stream) (h .taken)
+  pub took-taken : (s : State) (g : Lent) → let h = meets (g .stream) s (g .bytes) (g .one) (g .two) in took box s g ≡ events (g .stream) (h .taken)
   took-taken s g =
       let h = meets (g .stream) s (g .bytes) (g .one) (g .two) in
       ap (events (g .stream)) (front (g .bytes) (h .taken) (h .rest) (result box s g .gives .taken) (h .splits .whole) (h .count))

@@ -20,12 +20,16 @@ use Rattle.agree.proofs.Told.{column-told}
 use Rattle.linebox.specs.declared.State.{State}
 use Rattle.linebox.specs.State.{sound, freshBox}
 use Rattle.linebox.specs.Step.{step, Event, run}
+use Rattle.linebox.specs.Ends.{events}
 use Rattle.linebox.proofs.Stays.{sound-parts, sound-step, fresh-sound}
-use Rattle.demands.specs.Session.{Given, left, taken, written}
+use Rattle.demands.specs.Box.{Result, Box, ours}
+use Rattle.demands.specs.EveryCall.{EveryCall}
+use Rattle.demands.specs.Lent.{lines, Lent, result, tookAll}
 use Rattle.demands.specs.Asks.{asks, asksAll}
-use Rattle.demands.specs.Story.{connects, Turn, eventsOf, Scene, start, does, turned, after, lineOf, sheetOf, Obedient, charactersOf, itemsOf, Within, Keeps, Holds, Off, Demand}
-use Rattle.demands.specs.Lent.{lines}
-use Rattle.demands.proofs.Sessions.{session-state, session-lines}
+use Rattle.demands.specs.Story.{connects, Turn, eventsOf, Scene, start, does, turned, after, lineOf, sheetOf, Obedient, charactersOf, itemsOf, Within, Keeps, Holds, Off, left, Printing}
+use Rattle.demands.proofs.Sessions.{run-append}
+use Rattle.demands.proofs.OurBox.{ours-every-call}
+use Rattle.demands.proofs.Lent.{took-taken, all-sent}
 use Rattle.demands.proofs.Sending.{line-items, sender-items}
 use Rattle.demands.proofs.Reading.{items-read, characters-append, plain-items}
 use Rattle.demands.proofs.Landing.{items-within}
@@ -105,15 +109,31 @@ line-lines : (x : Scene) (ts : List Turn) → lineOf x ts ≡ lines (x .state) (
 line-lines x [] = refl
 line-lines x (t ∷ ts) = ap (λ (r : List ℕ). does x (t .event) .line ++ r) (line-lines (turned x t) ts)
 
--- For sessions: any list of calls from a fresh box, any inputs and buffers, all answers included; any printer at first, and any at
--- each connection command that succeeds.
-pub demand-three : (gs : List Given) (p : Printer) (ts : List Turn) → eventsOf ts ≡ taken freshBox gs → Obedient (start p) ts → Demand gs p ts
-demand-three gs p ts e obeys =
-    let stands : Stands (start p) = record { sound = fresh-sound; agrees = unknown-agrees p; sure = λ q. absurd (false≢true q) } in
-    let h = holds-from (start p) ts stands obeys in
-    record {
-      heard = session-lines freshBox gs ∙ ap (lines freshBox) (sym e) ∙ sym (line-lines (start p) ts);
-      state = session-state freshBox gs ∙ ap (run freshBox) (sym e) ∙ sym (after-run (start p) ts);
-      holds = h;
-      prints = prints-from (start p) ts h;
-    }
+module _ (box : Box) (meets : EveryCall box) where
+  -- the state that the last call left is that of the bytes taken
+  left-run : (s : State) (gs : List Lent) → left box s gs ≡ run s (tookAll box s gs)
+  left-run s [] = refl
+  left-run s (g ∷ gs) =
+      let h = meets (g .stream) s (g .bytes) (g .one) (g .two) in
+      let rest = tookAll box (result box s g .gives .state) gs in
+      left-run (result box s g .gives .state) gs
+      ∙ ap (λ (q : State). run q rest) (h .state)
+      ∙ sym (run-append s (events (g .stream) (h .taken)) rest)
+      ∙ ap (λ (es : List Event). run s (es ++ rest)) (sym (took-taken box meets s g))
+
+  -- Demand 3 of every box that meets demand 1.
+  pub box-prints : Printing box
+  box-prints gs p ts e obeys =
+      let stands : Stands (start p) = record { sound = fresh-sound; agrees = unknown-agrees p; sure = λ q. absurd (false≢true q) } in
+      let h = holds-from (start p) ts stands obeys in
+      record {
+        heard = all-sent box meets freshBox gs ∙ ap (lines freshBox) (sym e) ∙ sym (line-lines (start p) ts);
+        state = left-run freshBox gs ∙ ap (run freshBox) (sym e) ∙ sym (after-run (start p) ts);
+        holds = h;
+        prints = prints-from (start p) ts h;
+      }
+
+-- Every character asked for prints as itself, in order; a case on record is the printer's and a column on record its count; after
+-- the first return, with 49 on, what lands lands below the limit.
+pub ours-prints : Printing ours
+ours-prints = box-prints ours ours-every-call

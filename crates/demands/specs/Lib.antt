@@ -3,11 +3,12 @@ pub mod Box
 pub mod ExactCodes
 pub mod EveryCall
 pub mod ItemCodes
-pub mod Session
 pub mod Asks
-pub mod Story
-pub mod Traces
 pub mod Lent
+pub mod Story
 pub mod OnRecord
 pub mod ReadingBack
 pub mod WrongBoxes
+pub mod Traces
+pub mod Forgetful
+pub mod Example

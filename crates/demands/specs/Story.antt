@@ -24,7 +24,8 @@ use Rattle.linebox.specs.declared.Stream.{Stream}
 use Rattle.linebox.specs.declared.Stream.the-variants.{Host, Line, Tu}
 use Rattle.linebox.specs.State.{freshBox}
 use Rattle.linebox.specs.Step.{Step, text, step, Event}
-use Rattle.demands.specs.Session.{Given, left, taken, written}
+use Rattle.demands.specs.Box.{Result, Box}
+use Rattle.demands.specs.Lent.{Lent, result, tookAll, sentAll}
 use Rattle.demands.specs.Asks.{codeIn, asks, asksAll}
 
 -- Whose turn it is.
@@ -145,11 +146,21 @@ abbrev pub Off : State → List Event → Type 0
 Off s [] = Unit {0}
 Off s (e ∷ es) = (s .settings .endings ≡ false) × Off (step (e .stream) s (e .byte) .state) es
 
--- Demand 3, of the calls of a session from a fresh box, and of the bytes that they took with the printers that took the line.
-pub record Demand (gs : List Given) (p : Printer) (ts : List Turn) : Type 0 where
+-- the state that the last call left
+abbrev pub left : Box → State → List Lent → State
+left box s [] = s
+left box s (g ∷ gs) = left box (result box s g .gives .state) gs
+
+-- What is demanded of calls from a fresh box, and of the bytes that they took with the printers that took the line.
+pub record Printed (box : Box) (gs : List Lent) (p : Printer) (ts : List Turn) : Type 0 where
   -- the printers hear what the calls wrote to the line buffers
-  pub heard : written freshBox gs ≡ lineOf (start p) ts
-  pub state : left freshBox gs ≡ after (start p) ts .state
+  pub heard : sentAll box freshBox gs ≡ lineOf (start p) ts
+  pub state : left box freshBox gs ≡ after (start p) ts .state
   pub holds : Holds (start p) ts
   -- with 49 off, the list printed is the list asked for
   pub prints : Off freshBox (eventsOf ts) → charactersOf (sheetOf (start p) ts) ≡ asksAll freshBox (eventsOf ts)
+
+-- Demand 3, of any box: any calls from a fresh one, any bytes and buffers, each handed the last state, all answers included; any
+-- printer at first, and any at each connection command that succeeds.
+abbrev pub Printing : Box → Type 0
+Printing box = (gs : List Lent) (p : Printer) (ts : List Turn) → eventsOf ts ≡ tookAll box freshBox gs → Obedient (start p) ts → Printed box gs p ts
