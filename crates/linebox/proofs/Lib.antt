@@ -3,7 +3,6 @@ pub mod Modes
 pub mod Sent
 pub mod Answered
 pub mod Stays
-pub mod Buffers
 pub mod Turns
 pub mod Rest
 pub mod Most

@@ -20,7 +20,7 @@ use Rattle.linebox.specs.Step.{Step, step}
 use Rattle.linebox.specs.Call.{firstOf, secondOf, refuses, fits, Done, stopped, onward, taking, called}
 use Rattle.linebox.specs.Byte.{Offers, Calls}
 use Rattle.linebox.proofs.Stays.{sound-step}
-use Rattle.linebox.proofs.Buffers.{Filled, free-length, filled-more, unfilled}
+use Rattle.laws.proofs.Filled.{Filled, free-length, filled-more, unfilled}
 use Rattle.laws.proofs.Both.{both}
 
 -- a test that was turned round

@@ -70,5 +70,8 @@ abbrev pub call : Stream → State → List ℕ → ℕ → ℕ → Done
 call t s xs a b = cond (sound s) (taking t s xs a b) (stopped Unsound s)
 
 -- what the caller is told of it
+abbrev pub endedAt : Answer → ℕ → ℕ → ℕ → State → Called
+endedAt answer taken first second s = record { answer = answer; taken = taken; first = first; second = second; state = s }
+
 abbrev pub called : Done → Called
-called d = record { answer = d .answer; taken = d .taken; first = length (d .first); second = length (d .second); state = d .state }
+called d = endedAt (d .answer) (d .taken) (length (d .first)) (length (d .second)) (d .state)

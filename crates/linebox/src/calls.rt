@@ -6,7 +6,7 @@ ghost use Rattle.settings.specs.Laws.{Sound};
 ghost use Rattle.linebox.specs.Names.{Host as Names·Host, Line as Names·Line, Tu as Names·Tu};
 ghost use Rattle.linebox.specs.Step.{step};
 ghost use Rattle.linebox.specs.State.{sound};
-ghost use Rattle.linebox.specs.Call.{refuses, taking, call};
+ghost use Rattle.linebox.specs.Call.{refuses, taking, call, endedAt};
 ghost use Rattle.linebox.specs.Byte.{Offers, Calls, CallsOne};
 use crate::Answer;
 use crate::Called;
@@ -44,6 +44,19 @@ fn put_byte(t: Stream, s: State, b: u8, first: &mut [u8], second: &mut [u8]) -> 
     }
 }
 
+// A call that ends here.
+fn ended(answer: Answer, taken: usize, first: usize, second: usize, state: State) -> Called
+    ensures { λ r. ⌜ r ≡ endedAt answer taken first second state ⌝ }
+{
+    Called {
+        answer,
+        taken,
+        first,
+        second,
+        state,
+    }
+}
+
 // The bytes of a stream from a sound state, as many as have room, into the two buffers from their starts on.
 fn take_all(t: Stream, start: State, input: &[u8], first: &mut [u8], second: &mut [u8]) -> Called
     requires { ⌜ sound start ≡ true ⌝ }
@@ -58,36 +71,18 @@ fn take_all(t: Stream, start: State, input: &[u8], first: &mut [u8], second: &mu
     while taken < input.len() {
         let b = input[taken];
         if is_refused(t, state, b) {
-            return Called {
-                answer: Answer::NoCode,
-                taken,
-                first: one,
-                second: two,
-                state,
-            };
+            return ended(Answer::NoCode, taken, one, two, state);
         }
         let x = put_byte(t, state, b, &mut first[one..], &mut second[two..]);
         if !x.fits {
-            return Called {
-                answer: Answer::NoRoom,
-                taken,
-                first: one,
-                second: two,
-                state,
-            };
+            return ended(Answer::NoRoom, taken, one, two, state);
         }
         state = x.state;
         one += x.first;
         two += x.second;
         taken += 1;
     }
-    Called {
-        answer: Answer::All,
-        taken,
-        first: one,
-        second: two,
-        state,
-    }
+    ended(Answer::All, taken, one, two, state)
 }
 
 // What is left of the input from the first byte not taken on; nothing past its end.
@@ -110,13 +105,7 @@ fn run_call(t: Stream, s: State, input: &[u8], first: &mut [u8], second: &mut [u
     if is_sound(s) {
         take_all(t, s, input, first, second)
     } else {
-        Called {
-            answer: Answer::Unsound,
-            taken: 0,
-            first: 0,
-            second: 0,
-            state: s,
-        }
+        ended(Answer::Unsound, 0, 0, 0, s)
     }
 }
 

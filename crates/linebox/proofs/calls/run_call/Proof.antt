@@ -17,13 +17,18 @@ same-length c = search needs
 same-length-2 : tie.Need-same-length-2
 same-length-2 c = search needs
 
+ended-requires : tie.Need-ended-requires
+ended-requires c κs = search needs
+
 returns : tie.Need-returns
 returns c = rw (sym (c .before .before .before .before .before .before .before .before .is-sound .ensures) ∙ c .before .before .before .before .before .before .before .if1 .taken) (c .before .before .before .before .take-all .ensures)
 
 returns-2 : tie.Need-returns-2
-returns-2 c = rw (sym (c .before .is-sound .ensures) ∙ c .if1 .left) (record { gives = refl; one = refl; two = refl })
+returns-2 c =
+    let e = c .before in
+    rw (sym (e .before .is-sound .ensures) ∙ e .if1 .left, c .ended .ensures) (record { gives = refl; one = refl; two = refl })
 
 pub run-call-spec : {M : Type 1} → statement M
 run-call-spec =
     tie.close
-    (tie.spec is-sound-requires take-all-requires same-length same-length-2 returns returns-2)
+    (tie.spec is-sound-requires take-all-requires ended-requires same-length same-length-2 returns returns-2)

@@ -8,7 +8,7 @@ use native.Mathlib.Omega.{arith}
 use lib.ListN.{length, getD}
 use Rattle.linebox.proofs.Stays.{sound-parts}
 use Rattle.linebox.specs.Names.{All, NoCode}
-use Rattle.linebox.proofs.Buffers.{unfilled}
+use Rattle.laws.proofs.Filled.{unfilled}
 use Rattle.linebox.proofs.Turns.{turned-true, turned-false, Reached, reached, stops, all-taken, no-code, stays, turn, turn-rooms}
 use borrow.Author.Needs.{needs}
 use Rattle.linebox.proofs.calls.take_all.Statement.{statement}
@@ -32,6 +32,15 @@ shared-slice-read-b c = search needs
 is-refused-requires : tie.Need-is-refused-requires Inv-loop μ-loop
 is-refused-requires c κs = search needs
 
+ended-requires : tie.Need-ended-requires Inv-loop μ-loop
+ended-requires c κs = search needs
+
+ended-requires-2 : tie.Need-ended-requires-2 Inv-loop μ-loop
+ended-requires-2 c κs = search needs
+
+ended-requires-3 : tie.Need-ended-requires-3 Inv-loop μ-loop
+ended-requires-3 c κs = search needs
+
 same-length : tie.Need-same-length Inv-loop μ-loop
 same-length c = search needs
 
@@ -40,11 +49,13 @@ same-length-2 c = search needs
 
 returns : tie.Need-returns Inv-loop μ-loop
 returns c =
-    let m = c .before .before .before .before in
+    let e = c .before in
+    let m = e .before .before .before .before in
     let l = m .loop in
     let a = m .before .before .before .before .args in
-    let e = no-code (a .t) (a .start) (now (a .input)) (now (a .first)) (now (a .second)) (l .state) (l .taken) (c .before .before .before .loop-test .taken) _ _ (sym (c .before .is-refused .ensures) ∙ c .if1 .taken) in
-    stops (a .t) (a .start) (now (a .input)) (now (a .first)) (now (a .second)) (l .state) (l .taken) (l .first) (l .second) (l .one) (l .two) NoCode (l .inv) e
+    let e = no-code (a .t) (a .start) (now (a .input)) (now (a .first)) (now (a .second)) (l .state) (l .taken) (e .before .before .before .loop-test .taken) _ _ (sym (e .before .is-refused .ensures) ∙ e .if1 .taken) in
+    rw (c .ended .ensures)
+    (stops (a .t) (a .start) (now (a .input)) (now (a .first)) (now (a .second)) (l .state) (l .taken) (l .first) (l .second) (l .one) (l .two) NoCode (l .inv) e)
 
 sub-put-byte : tie.Need-sub-put-byte Inv-loop μ-loop
 sub-put-byte c = search needs
@@ -68,21 +79,28 @@ put-byte-requires : tie.Need-put-byte-requires Inv-loop μ-loop
 put-byte-requires c κs = sound-parts (c .before .before .before .before .before .before .loop .state) (c .before .before .before .before .before .before .loop .inv .is-sound) .held
 
 same-length-3 : tie.Need-same-length-3 Inv-loop μ-loop
-same-length-3 c = search needs
+same-length-3 c =
+    let e′ = c .before in
+    let l = e′ .before .before .before .before .before .before .before .before .before .before .before .before .before .loop in
+    let e = rw (turned-true (e′ .before .before .before .before .before .before .put-byte .result .fits) (e′ .if2 .taken)) at (e′ .before .before .before .before .before .before .put-byte .ensures .one) in
+    ap length (unfilled (l .first) _ (l .one) e) ∙ l .inv .one .same-length
 
 same-length-4 : tie.Need-same-length-4 Inv-loop μ-loop
 same-length-4 c =
-    let l = c .before .before .before .before .before .before .before .before .before .before .before .before .before .loop in
-    let e = rw (turned-true (c .before .before .before .before .before .before .put-byte .result .fits) (c .if2 .taken)) at (c .before .before .before .before .before .before .put-byte .ensures .two) in
+    let e′ = c .before in
+    let l = e′ .before .before .before .before .before .before .before .before .before .before .before .before .before .loop in
+    let e = rw (turned-true (e′ .before .before .before .before .before .before .put-byte .result .fits) (e′ .if2 .taken)) at (e′ .before .before .before .before .before .before .put-byte .ensures .two) in
     ap length (unfilled (l .second) _ (l .two) e) ∙ l .inv .two .same-length
 
 returns-2 : tie.Need-returns-2 Inv-loop μ-loop
 returns-2 c =
-    let m = c .before .before .before .before .before .before .before .before .before .before .before .before .before in
+    let e = c .before in
+    let m = e .before .before .before .before .before .before .before .before .before .before .before .before .before in
     let l = m .loop in
     let a = m .before .before .before .before .args in
-    stays (a .t) (a .start) (now (a .input)) (now (a .first)) (now (a .second)) (l .state) (l .taken) (c .before .before .before .before .before .before .before .before .before .before .before .before .loop-test .taken) (l .first) (l .second) _ _ (l .one) (l .two) _ (l .inv)
-    (sym (c .before .before .before .before .before .before .before .before .before .before .is-refused .ensures) ∙ c .before .before .before .before .before .before .before .before .before .if1 .left) (c .before .before .before .before .before .before .put-byte .ensures) (turned-true _ (c .if2 .taken))
+    rw (c .ended2 .ensures)
+    (stays (a .t) (a .start) (now (a .input)) (now (a .first)) (now (a .second)) (l .state) (l .taken) (e .before .before .before .before .before .before .before .before .before .before .before .before .loop-test .taken) (l .first) (l .second) _ _ (l .one) (l .two) _ (l .inv)
+    (sym (e .before .before .before .before .before .before .before .before .before .before .is-refused .ensures) ∙ e .before .before .before .before .before .before .before .before .before .if1 .left) (e .before .before .before .before .before .before .put-byte .ensures) (turned-true _ (e .if2 .taken)))
 
 -- the counts stay within the buffers
 rooms : (d : tie.After-struct-known2 Inv-loop μ-loop)
@@ -125,11 +143,13 @@ same-length-6 c = search needs
 
 returns-3 : tie.Need-returns-3 Inv-loop μ-loop
 returns-3 c =
-    let m = c .before in
+    let e = c .before in
+    let m = e .before in
     let l = m .loop in
     let a = m .before .before .before .before .args in
-    stops (a .t) (a .start) (now (a .input)) (now (a .first)) (now (a .second)) (l .state) (l .taken) (l .first) (l .second) (l .one) (l .two) All (l .inv)
-    (all-taken (a .t) (a .start) (now (a .input)) (now (a .first)) (now (a .second)) (l .state) (l .taken) _ _ (c .loop-test .left))
+    rw (c .ended3 .ensures)
+    (stops (a .t) (a .start) (now (a .input)) (now (a .first)) (now (a .second)) (l .state) (l .taken) (l .first) (l .second) (l .one) (l .two) All (l .inv)
+    (all-taken (a .t) (a .start) (now (a .input)) (now (a .first)) (now (a .second)) (l .state) (l .taken) _ _ (e .loop-test .left)))
 
 pub take-all-spec : {M : Type 1} → statement M
 take-all-spec =
@@ -140,6 +160,7 @@ take-all-spec =
     loop-holds
     shared-slice-read-b
     is-refused-requires
+    ended-requires
     same-length
     same-length-2
     returns
@@ -150,6 +171,7 @@ take-all-spec =
     part-put-byte-start-2
     part-put-byte-end-2
     put-byte-requires
+    ended-requires-2
     same-length-3
     same-length-4
     returns-2
@@ -158,6 +180,7 @@ take-all-spec =
     add-taken
     loop-less
     loop-again
+    ended-requires-3
     same-length-5
     same-length-6
     returns-3)

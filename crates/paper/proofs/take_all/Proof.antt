@@ -1,0 +1,47 @@
+-- `paper::take_all` is safe and ends. The measure is how many turns are left.
+-- Assumes nothing.
+use Prim.Native.Nat.{_-_}
+use borrow.Author.Needs.{needs}
+use Rattle.paper.proofs.take_all.Statement.{statement}
+use Rattle.paper.proofs.take_all.Tie as tie
+
+abbrev Inv-loop : tie.InvT-loop
+Inv-loop r₀ turns₀ r turns = Unit {0}
+
+abbrev μ-loop : tie.MeasureT-loop
+μ-loop r₀ turns₀ r turns = turns
+
+loop-holds : tie.Need-loop-holds Inv-loop μ-loop
+loop-holds c = search needs
+
+take-some-requires : tie.Need-take-some-requires Inv-loop μ-loop
+take-some-requires c κs = search needs
+
+sub-turns : tie.Need-sub-turns Inv-loop μ-loop
+sub-turns c = search needs
+
+loop-less : tie.Need-loop-less Inv-loop μ-loop
+loop-less c = search needs
+
+loop-again : tie.Need-loop-again Inv-loop μ-loop
+loop-again c = search needs
+
+returns : tie.Need-returns Inv-loop μ-loop
+returns c = search needs
+
+returns-2 : tie.Need-returns-2 Inv-loop μ-loop
+returns-2 c = search needs
+
+pub take-all-spec : {M : Type 1} → statement M
+take-all-spec =
+    tie.close
+    (tie.spec
+    Inv-loop
+    μ-loop
+    loop-holds
+    take-some-requires
+    sub-turns
+    loop-less
+    loop-again
+    returns
+    returns-2)

@@ -1,0 +1,8 @@
+pub mod Names
+pub mod Stop
+pub mod Watch
+pub mod Verdict
+pub mod Line
+pub mod Sheet
+pub mod Fits
+pub mod Struck
