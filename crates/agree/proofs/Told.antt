@@ -19,7 +19,7 @@ use Rattle.agree.specs.Sure.{ColumnSure, CaseSure, isReturn, isCased, ho
 use Rattle.agree.proofs.After.{record-after}
 use Rattle.agree.proofs.Folds.{item-cases, items-noted}
 
-holds-append : (f : Kind → Bool) (xs ys : List ℕ) → holds f (xs ++ ys) ≡ (holds f xs || holds f ys)
+pub holds-append : (f : Kind → Bool) (xs ys : List ℕ) → holds f (xs ++ ys) ≡ (holds f xs || holds f ys)
 holds-append f [] ys = refl
 holds-append f (x ∷ xs) ys = rw (holds-append f xs ys, or-assoc)
 

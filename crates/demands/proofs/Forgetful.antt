@@ -1,0 +1,27 @@
+-- The box whose record stays unknown fails demand 2, by computing what it sends for one input.
+-- Assumes nothing.
+use Prim.Native.Nat.{ℕ}
+use mathlib.Core.Path.{_≡_, refl}
+use mathlib.Core.List.{[]}
+use mathlib.Core.Bool.{false}
+use borrow.Author.Tests.{eqb-false}
+use lib.Dec.{eqb}
+use Rattle.code.specs.Rows.{rowAt}
+use Rattle.code.specs.Kinds.{kindOf}
+use Rattle.code.specs.Convert.{conversion}
+use Rattle.message.specs.Message.{digits}
+use Rattle.settings.specs.Table.{soundString, idOf}
+use Rattle.settings.specs.Command.{commanded}
+use Rattle.demands.specs.Names.{Host}
+use Rattle.demands.specs.ExactCodes.{ExactCodes}
+use Rattle.demands.specs.Forgetful.{forgetful, ready, spaces, paper, Vanishes}
+
+-- endings vanish
+pub vanishes : Vanishes
+unfolding conversion kindOf rowAt digits soundString idOf commanded
+vanishes = record { due = refl; sent = refl }
+
+-- twelve codes are written where the fold gives seventeen
+pub forgetful-fails : ExactCodes forgetful → ⊥
+unfolding conversion kindOf rowAt digits soundString idOf commanded
+forgetful-fails h = eqb-false 12 17 refl (h Host ready spaces paper [] .count-first)

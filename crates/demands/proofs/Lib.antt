@@ -1,0 +1,15 @@
+pub mod OurBox
+pub mod ItemCodes
+pub mod Sessions
+pub mod Sending
+pub mod Reading
+pub mod ReadingBack
+pub mod Lent
+pub mod OnRecord
+pub mod Landing
+pub mod Story
+pub mod WrongBoxes
+pub mod Forgetful
+pub mod Traces
+pub mod ReadingExample
+pub mod Example

@@ -1,0 +1,158 @@
+-- The items of a byte read as what is asked for, and with 49 off that is what they print.
+-- Assumes nothing.
+use Prim.Native.Nat.{ℕ, suc, _≤_, _<_}
+use mathlib.Core.Path.{_≡_, refl, ap, _∙_}
+use mathlib.Core.Bool.{Bool, true, false, cond, _&&_, and-false}
+use mathlib.Core.List.{List, [], _∷_, _++_, append-assoc, append-nil}
+use native.Mathlib.Omega.{arith}
+use borrow.Author.Tests.{ltb-true, ltb-false, lt-leb, eqb-true, ne-eqb}
+use lib.Dec.{T, eqb, ltb}
+use Rattle.laws.proofs.Both.{both}
+use Rattle.laws.proofs.Table.{upto, below}
+use Rattle.code.specs.declared.Case.{Case}
+use Rattle.code.specs.declared.Case.the-variants.{Letters, Figures}
+use Rattle.code.specs.declared.Kind.{Kind}
+use Rattle.code.specs.declared.Kind.the-variants.{Still, Space, Return, Shift, Char}
+use Rattle.code.specs.declared.Conversion.{Conversion}
+use Rattle.code.specs.declared.Conversion.the-variants.{Nothing}
+use Rattle.code.specs.Rows.{letters, figures, rowAt}
+use Rattle.code.specs.Kinds.{kindOf, moves}
+use Rattle.code.specs.Convert.{capital, found, seek, conversion}
+use Rattle.command.specs.Read.{read, textOf}
+use Rattle.settings.specs.declared.Settings.{Settings}
+use Rattle.settings.specs.declared.Connection.{Connection}
+use Rattle.settings.specs.declared.Connection.the-variants.{Mode1, Mode4, Mode10, Mode11}
+use Rattle.printer.specs.declared.Printer.{Printer}
+use Rattle.printer.specs.declared.Mark.{Mark}
+use Rattle.printer.specs.Printer.{hears, printsAs, sheet}
+use Rattle.sender.specs.declared.Record.{Record}
+use Rattle.sender.specs.declared.Column.{Column}
+use Rattle.sender.specs.declared.Column.the-variants as column
+use Rattle.sender.specs.declared.Wanted.{Wanted}
+use Rattle.sender.specs.declared.Sender.{Sender}
+use Rattle.sender.specs.Ending.{due, ending, endingBefore}
+use Rattle.sender.specs.Item.{item, afterItem, wantedOf}
+use Rattle.agree.specs.Asked.{mark, printed, printedAll}
+use Rattle.linebox.specs.declared.State.{State}
+use Rattle.linebox.specs.declared.Stream.{Stream}
+use Rattle.linebox.specs.declared.Stream.the-variants.{Host, Line, Tu}
+use Rattle.linebox.specs.Step.{asked, text, Event}
+use Rattle.demands.specs.Asks.{textByte, textBytes, hostAsks, isShift, codeIn, tuAsks, asksBy, asks}
+use Rattle.demands.specs.Story.{charactersOf, carriedTo, itemsBy, itemsOf, reads}
+
+-- Nothing from 128 on has a code.
+
+abbrev low : List ℕ → Bool
+low [] = true
+low (x ∷ xs) = ltb x 128 && low xs
+
+seek-none : (case : Case) (xs : List ℕ) (i b : ℕ) (other : Conversion) → low xs ≡ true → 128 ≤ b → seek case i xs b other ≡ other
+seek-none case [] i b other l h = refl
+seek-none case (x ∷ xs) i b other l h =
+    let t = both (ltb x 128) (low xs) l in
+    let n : eqb x b ≡ false = ne-eqb x b (λ (e : x ≡ b). omega (arith, e, h, ltb-true x 128 (t .0))) in
+    rw n (seek-none case xs (suc i) b other (t .1) h)
+
+none-high : (b : ℕ) → 128 ≤ b → conversion b ≡ Nothing
+unfolding conversion
+none-high b h =
+    let c : capital b ≡ b = rw (lt-leb b 122 (omega (arith, h)), and-false) in
+    rw c (seek-none Letters letters 0 b (seek Figures 0 figures b Nothing) refl h ∙ seek-none Figures figures 0 b Nothing refl h)
+
+-- Text.
+
+abbrev same : List ℕ → List ℕ → Bool
+same [] [] = true
+same [] (y ∷ ys) = false
+same (x ∷ xs) [] = false
+same (x ∷ xs) (y ∷ ys) = eqb x y && same xs ys
+
+same-eq : (xs ys : List ℕ) → T (same xs ys) → xs ≡ ys
+same-eq [] [] t = refl
+same-eq [] (y ∷ ys) t = absurd t
+same-eq (x ∷ xs) [] t = absurd t
+same-eq (x ∷ xs) (y ∷ ys) t = go (eqb x y) refl t (same-eq xs ys)
+  where
+    go : (b : Bool) → eqb x y ≡ b → T (b && same xs ys) → (T (same xs ys) → xs ≡ ys) → x ∷ xs ≡ y ∷ ys
+    go true e t rest = rw (eqb-true x y e, rest t)
+    go false e t rest = absurd t
+
+byte-test : ℕ → Bool
+byte-test b = same (reads (wantedOf (conversion b))) (textByte b)
+
+byte-all : T (upto byte-test 128)
+unfolding byte-test conversion kindOf rowAt
+byte-all = tt
+
+-- a byte's item reads as the byte in capitals
+byte-reads : (b : ℕ) → reads (wantedOf (conversion b)) ≡ textByte b
+unfolding byte-test
+byte-reads b = go (ltb b 128) refl
+  where
+    go : (l : Bool) → ltb b 128 ≡ l → reads (wantedOf (conversion b)) ≡ textByte b
+    go true e = same-eq (reads (wantedOf (conversion b))) (textByte b) (below byte-test 128 byte-all b (ltb-true b 128 e))
+    go false e = rw (none-high b (ltb-false b 128 e))
+
+reads-append : (xs ys : List Wanted) → reads (xs ++ ys) ≡ reads xs ++ reads ys
+reads-append [] ys = refl
+reads-append (x ∷ xs) ys = rw (reads-append xs ys, append-assoc)
+
+text-reads : (bs : List ℕ) → reads (asked bs) ≡ textBytes bs
+text-reads [] = refl
+text-reads (b ∷ bs) = rw (reads-append (wantedOf (conversion b)) (asked bs), byte-reads b, text-reads bs)
+
+-- by the mode
+host-reads : (k : Connection) (bs : List ℕ) → reads (text k bs) ≡ hostAsks k bs
+host-reads (Mode1 port speed) bs = text-reads bs
+host-reads (Mode4 port speed) bs = refl
+host-reads Mode10 bs = refl
+host-reads Mode11 bs = refl
+
+tu-reads : (k : Connection) (s : State) (c : ℕ) → reads (carriedTo k s c) ≡ tuAsks k (s .incoming) c
+tu-reads (Mode1 port speed) s c = refl
+tu-reads (Mode4 port speed) s c = append-nil (codeIn (s .incoming) c)
+tu-reads Mode10 s c = refl
+tu-reads Mode11 s c = refl
+
+reads-by : (t : Stream) (s : State) (b : ℕ) → reads (itemsBy t s b) ≡ asksBy t s b
+reads-by Host s b = host-reads (s .connection) (textOf (read (s .reader) b .out))
+reads-by Line s b = refl
+reads-by Tu s b = tu-reads (s .connection) s b
+
+-- its items read as what it asks for
+pub items-read : (s : State) (e : Event) → reads (itemsOf s e) ≡ asks s e
+items-read s e = reads-by (e .stream) s (e .byte)
+
+-- With 49 off.
+
+pub characters-append : (xs ys : List Mark) → charactersOf (xs ++ ys) ≡ charactersOf xs ++ charactersOf ys
+characters-append [] ys = refl
+characters-append (x ∷ xs) ys = rw (characters-append xs ys)
+
+mark-reads : (p : Printer) (w : Wanted) → charactersOf (printsAs (kindOf (w .code)) (mark p w)) ≡ codeIn (w .case) (w .code)
+mark-reads p w = go (kindOf (w .code))
+  where
+    go : (k : Kind) → charactersOf (printsAs k (mark p w)) ≡ cond (isShift k) [] (rowAt (w .case) (w .code) ∷ [])
+    go Still = refl
+    go Space = refl
+    go Return = refl
+    go (Shift to) = refl
+    go (Char bell) = refl
+
+module _ (o : Settings) (off : o .endings ≡ false) where
+  not-due : (col : Column) → due o col ≡ false
+  not-due column.Unknown = refl
+  not-due (column.At n) = rw off
+
+  no-ending : (r : Record) (w : Wanted) → endingBefore o r w ≡ []
+  no-ending r w = rw (not-due (r .column), and-false)
+
+  printed-plain : (r : Record) (p : Printer) (w : Wanted) → charactersOf (printed o r p w) ≡ codeIn (w .case) (w .code)
+  printed-plain r p w = ap (λ (cs : List ℕ). charactersOf (sheet p cs ++ printsAs (kindOf (w .code)) (mark (hears p cs) w))) (no-ending r w) ∙ mark-reads p w
+
+  -- items print as they read
+  pub plain-items : (s : Sender) (p : Printer) (ws : List Wanted) → charactersOf (printedAll o s p ws) ≡ reads ws
+  plain-items s p [] = refl
+  plain-items s p (w ∷ ws) =
+      let rest = printedAll o (afterItem o s w) (hears p (item o s w)) ws in
+      rw (characters-append (printed o (s .held) p w) rest, printed-plain (s .held) p w, plain-items (afterItem o s w) (hears p (item o s w)) ws)

@@ -1,0 +1,79 @@
+-- What a byte sends is its items, and unless it connects the sender is theirs after it.
+-- Assumes nothing.
+use Prim.Native.Nat.{ℕ}
+use mathlib.Core.Path.{_≡_, refl}
+use mathlib.Core.Bool.{cond}
+use mathlib.Core.List.{List, [], _∷_}
+use Rattle.command.specs.declared.Reader.{Reader}
+use Rattle.command.specs.declared.Out.{Out}
+use Rattle.command.specs.declared.Out.the-variants.{Nothing, One, Two, Finished}
+use Rattle.command.specs.Read.{read, textOf}
+use Rattle.settings.specs.declared.Connection.{Connection}
+use Rattle.settings.specs.declared.Connection.the-variants.{Mode1, Mode4, Mode10, Mode11}
+use Rattle.sender.specs.declared.Sender.{Sender}
+use Rattle.sender.specs.Item.{items, afterItems, fresh}
+use Rattle.linebox.specs.declared.State.{State}
+use Rattle.linebox.specs.declared.Stream.{Stream}
+use Rattle.linebox.specs.declared.Stream.the-variants.{Host, Line, Tu}
+use Rattle.linebox.specs.State.{withReader}
+use Rattle.linebox.specs.Step.{text, hosted, lined, tued, step, Event}
+use Rattle.demands.specs.Story.{connecting, connectsBy, connects, carriedTo, itemsBy, itemsOf}
+use Rattle.demands.proofs.Sessions.{lined-none}
+
+text-none : (k : Connection) → text k [] ≡ []
+text-none (Mode1 port speed) = refl
+text-none (Mode4 port speed) = refl
+text-none Mode10 = refl
+text-none Mode11 = refl
+
+module _ (s : State) where
+  abbrev afterBy : Stream → ℕ → Sender
+  afterBy t b = afterItems (s .settings) (s .sender) (itemsBy t s b)
+
+  hosted-line : (r : Reader) (out : Out) → hosted (withReader s r) (s .reader .values) out .line ≡ items (s .settings) (s .sender) (text (s .connection) (textOf out))
+  hosted-line r Nothing = rw (text-none (s .connection))
+  hosted-line r (One b) = refl
+  hosted-line r (Two b) = refl
+  hosted-line r (Finished v count) = rw (text-none (s .connection))
+
+  hosted-sender : (r : Reader) (out : Out) → hosted (withReader s r) (s .reader .values) out .state .sender ≡ cond (connecting s out) fresh (afterItems (s .settings) (s .sender) (text (s .connection) (textOf out)))
+  hosted-sender r Nothing = rw (text-none (s .connection))
+  hosted-sender r (One b) = refl
+  hosted-sender r (Two b) = refl
+  hosted-sender r (Finished v count) = rw (text-none (s .connection))
+
+  lined-sender : (k : Connection) (c : ℕ) → lined k s c .state .sender ≡ s .sender
+  lined-sender (Mode1 port speed) c = refl
+  lined-sender (Mode4 port speed) c = refl
+  lined-sender Mode10 c = refl
+  lined-sender Mode11 c = refl
+
+  tued-line : (k : Connection) (c : ℕ) → tued k s c .line ≡ items (s .settings) (s .sender) (carriedTo k s c)
+  tued-line (Mode1 port speed) c = refl
+  tued-line (Mode4 port speed) c = refl
+  tued-line Mode10 c = refl
+  tued-line Mode11 c = refl
+
+  tued-sender : (k : Connection) (c : ℕ) → tued k s c .state .sender ≡ afterItems (s .settings) (s .sender) (carriedTo k s c)
+  tued-sender (Mode1 port speed) c = refl
+  tued-sender (Mode4 port speed) c = refl
+  tued-sender Mode10 c = refl
+  tued-sender Mode11 c = refl
+
+  line-by : (t : Stream) (b : ℕ) → step t s b .line ≡ items (s .settings) (s .sender) (itemsBy t s b)
+  line-by Host b = hosted-line (read (s .reader) b .reader) (read (s .reader) b .out)
+  line-by Line b = lined-none (s .connection) s b
+  line-by Tu b = tued-line (s .connection) b
+
+  sender-by : (t : Stream) (b : ℕ) → step t s b .state .sender ≡ cond (connectsBy t s b) fresh (afterBy t b)
+  sender-by Host b = hosted-sender (read (s .reader) b .reader) (read (s .reader) b .out)
+  sender-by Line b = lined-sender (s .connection) b
+  sender-by Tu b = tued-sender (s .connection) b
+
+  -- its items go to the line
+  pub line-items : (e : Event) → step (e .stream) s (e .byte) .line ≡ items (s .settings) (s .sender) (itemsOf s e)
+  line-items e = line-by (e .stream) (e .byte)
+
+  -- a connection forgets the record and the last item
+  pub sender-items : (e : Event) → step (e .stream) s (e .byte) .state .sender ≡ cond (connects s e) fresh (afterItems (s .settings) (s .sender) (itemsOf s e))
+  sender-items e = sender-by (e .stream) (e .byte)

@@ -1,0 +1,16 @@
+-- The starred traces pass, by one computation.
+-- Assumes nothing.
+use mathlib.Core.Path.{_≡_, refl}
+use mathlib.Core.Bool.{true}
+use Rattle.code.specs.Rows.{rowAt}
+use Rattle.code.specs.Kinds.{kindOf}
+use Rattle.code.specs.Convert.{conversion}
+use Rattle.message.specs.Message.{digits}
+use Rattle.settings.specs.Table.{soundString, idOf}
+use Rattle.settings.specs.Command.{commanded}
+use Rattle.demands.specs.Traces.{traces, passes}
+
+-- all ten starred lines
+pub traces-pass : passes traces ≡ true
+unfolding traces conversion kindOf rowAt digits soundString idOf commanded
+traces-pass = refl

@@ -1,0 +1,60 @@
+-- Demand 1: how a call ends, said of the bytes taken and the rest, over what one byte does and over lengths.
+use Prim.Native.Nat.{ℕ, _-_}
+use mathlib.Core.Path.{_≡_}
+use mathlib.Core.Bool.{Bool, true, false}
+use mathlib.Core.List.{List, [], _∷_, _++_}
+use lib.ListN.{length}
+use Rattle.linebox.specs.State.{sound}
+use Rattle.linebox.specs.Step.{step}
+use Rattle.linebox.specs.Call.{refuses, fits}
+use Rattle.linebox.specs.Ends.{stateOf, firstsOf, secondsOf, fromSound}
+use Rattle.demands.specs.Names.{State, Stream, Answer, All, NoRoom, NoCode, Unsound}
+use Rattle.demands.specs.Box.{Result, Box}
+use Rattle.demands.specs.ExactCodes.{Wrote}
+
+-- A byte x, after the bytes `before` that were taken from state s, with a and b places lent.
+
+-- it is a byte over 31 of a code stream
+abbrev pub noCode : Stream → State → List ℕ → ℕ → Bool
+noCode t s before x = refuses t (stateOf t s before) x
+
+-- its whole output fits the parts of the buffers still free
+abbrev pub hasRoom : Stream → State → ℕ → ℕ → List ℕ → ℕ → Bool
+hasRoom t s a b before x = fits t (step t (stateOf t s before) x) (a - length (firstsOf t s before)) (b - length (secondsOf t s before))
+
+-- it is taken
+pub record Goes (t : Stream) (s : State) (a b : ℕ) (before : List ℕ) (x : ℕ) : Type 0 where
+  pub code : noCode t s before x ≡ false
+  pub room : hasRoom t s a b before x ≡ true
+
+-- Exactly when: 0, all bytes are taken; 1, the next byte's whole output does not fit one of the buffers; 2, the next byte of a
+-- code stream is over 31, and room is not looked at; 3, nothing is taken.
+abbrev pub Exactly : Stream → State → ℕ → ℕ → Answer → List ℕ → List ℕ → Type 0
+Exactly t s a b All taken rest = rest ≡ []
+Exactly t s a b NoRoom taken [] = ⊥
+Exactly t s a b NoRoom taken (x ∷ rest) = (noCode t s taken x ≡ false) × (hasRoom t s a b taken x ≡ false)
+Exactly t s a b NoCode taken [] = ⊥
+Exactly t s a b NoCode taken (x ∷ rest) = noCode t s taken x ≡ true
+Exactly t s a b Unsound taken rest = taken ≡ []
+
+-- the input is split into bytes taken and the rest, and the answer is the one for that split
+pub record Splits (t : Stream) (s : State) (xs : List ℕ) (a b : ℕ) (w : Answer) (taken rest : List ℕ) : Type 0 where
+  pub whole : xs ≡ taken ++ rest
+  -- 3 is answered exactly if the state handed in is not sound
+  pub state : sound s ≡ fromSound w
+  -- every byte taken goes, after those before it
+  pub each : (before : List ℕ) (x : ℕ) (others : List ℕ) → taken ≡ before ++ (x ∷ others) → Goes t s a b before x
+  pub next : Exactly t s a b w taken rest
+
+-- what a call gives: everything follows the bytes taken
+pub record Ended (t : Stream) (s : State) (xs one two : List ℕ) (r : Result) : Type 0 where
+  pub taken : List ℕ
+  pub rest : List ℕ
+  pub splits : Splits t s xs (length one) (length two) (r .gives .answer) taken rest
+  pub count : r .gives .taken ≡ length taken
+  pub state : r .gives .state ≡ stateOf t s taken
+  pub wrote : Wrote t s taken one two r
+
+-- each call, any state, any input, any buffers
+abbrev pub EveryCall : Box → Type 0
+EveryCall box = (t : Stream) (s : State) (xs one two : List ℕ) → Ended t s xs one two (box t s xs one two)

@@ -1,0 +1,68 @@
+-- A session that meets every premise of demand 3: commands, text, an ending, a change of limit, a second connection, and there a
+-- printer that unshifts on space by itself; two of its calls stop early.
+use Prim.Native.Nat.{ℕ}
+use mathlib.Core.Bool.{true, false}
+use mathlib.Core.List.{List, [], _∷_, _++_}
+use lib.ListN.{replicate}
+use Rattle.printer.specs.Printer.{from}
+use Rattle.linebox.specs.Step.{Event}
+use Rattle.linebox.specs.Ends.{events}
+use Rattle.demands.specs.Names.{Figures, Printer, Host, Line, Tu}
+use Rattle.demands.specs.Lent.{Lent}
+use Rattle.demands.specs.Story.{Turn}
+use Rattle.demands.specs.Traces.{write, mode4, on70, endings}
+
+-- a call with so much room in the line buffer
+abbrev host : ℕ → List ℕ → Lent
+host room bytes = record { stream = Host; bytes = bytes; one = replicate room 0; two = replicate 200 0 }
+
+-- 50,1,12
+abbrev limit12 : List ℕ
+limit12 = write ++ 53 ∷ 48 ∷ 44 ∷ 49 ∷ 44 ∷ 49 ∷ 50 ∷ 13 ∷ []
+
+-- CR `HELLO WORL`, and `D 12`
+abbrev hello : List ℕ
+hello = 13 ∷ 72 ∷ 69 ∷ 76 ∷ 76 ∷ 79 ∷ 32 ∷ 87 ∷ 79 ∷ 82 ∷ 76 ∷ []
+
+abbrev world : List ℕ
+world = 68 ∷ 32 ∷ 49 ∷ 50 ∷ []
+
+-- limit 12, 70 on, and ` 3`
+abbrev change : List ℕ
+change = limit12 ++ on70 ++ 32 ∷ 51 ∷ []
+
+-- from the TU: FIGS, a figure, a space, a letter and a return
+abbrev figure : List ℕ
+figure = 27 ∷ 23 ∷ 4 ∷ 16 ∷ 8 ∷ []
+
+-- the second call stops for want of room before the ending, and the sixth at a byte that is no code
+abbrev pub calls : List Lent
+calls =
+    host 0 endings
+    ∷ host 16 (hello ++ world)
+    ∷ host 20 world
+    ∷ host 20 change
+    ∷ host 20 mode4
+    ∷ record { stream = Tu; bytes = figure ++ 32 ∷ 3 ∷ []; one = replicate 20 0; two = [] }
+    ∷ record { stream = Line; bytes = 3 ∷ []; one = replicate 20 0; two = replicate 20 0 }
+    ∷ []
+
+-- a printer for each connection; the second unshifts on space
+abbrev pub first : Printer
+first = from Figures 7 false false
+
+abbrev pub second : Printer
+second = from Figures 40 true false
+
+abbrev pub with : Printer → List Event → List Turn
+with p [] = []
+with p (e ∷ es) = record { event = e; joining = p } ∷ with p es
+
+-- the bytes taken
+abbrev pub turns : List Turn
+turns = with first (events Host (endings ++ hello ++ world ++ change)) ++ with second (events Host mode4 ++ events Tu figure ++ events Line (3 ∷ []))
+
+-- the codes in the line buffers
+abbrev pub codes : List ℕ
+codes =
+    8 ∷ 31 ∷ 20 ∷ 1 ∷ 18 ∷ 18 ∷ 24 ∷ 4 ∷ 19 ∷ 24 ∷ 10 ∷ 18 ∷ 8 ∷ 8 ∷ 2 ∷ 31 ∷ 31 ∷ 9 ∷ 4 ∷ 27 ∷ 23 ∷ 19 ∷ 4 ∷ 31 ∷ 27 ∷ 1 ∷ 27 ∷ 23 ∷ 4 ∷ 31 ∷ 16 ∷ 8 ∷ []

@@ -1,0 +1,14 @@
+pub mod Names
+pub mod Box
+pub mod ExactCodes
+pub mod EveryCall
+pub mod ItemCodes
+pub mod Asks
+pub mod Lent
+pub mod Story
+pub mod OnRecord
+pub mod ReadingBack
+pub mod WrongBoxes
+pub mod Traces
+pub mod Forgetful
+pub mod Example

@@ -1,0 +1,66 @@
+-- Demand 3, reading back: what was sent since a mode 1 connection reads as the text since then.
+use Prim.Native.Nat.{ℕ}
+use mathlib.Core.Path.{_≡_}
+use mathlib.Core.Bool.{true, false}
+use mathlib.Core.List.{List, [], _∷_, _++_}
+use lib.ListN.{length, drop}
+use Rattle.command.specs.Read.{textOf}
+use Rattle.command.specs.Reads.{made}
+use Rattle.linebox.specs.Step.{step, Event, run}
+use Rattle.linebox.specs.Ends.{firstsOf}
+use Rattle.linebox.specs.Laws.{isMode1}
+use Rattle.demands.specs.Names.{State, Stream, Host, Line, Tu, Out}
+use Rattle.demands.specs.Box.{Box}
+use Rattle.demands.specs.Lent.{lines, Lent, tookAll, sentAll}
+use Rattle.demands.specs.Asks.{textBytes}
+use Rattle.demands.specs.Story.{connects}
+
+-- the box's own line-to-host conversion: what codes from the line give to the host
+abbrev pub readBack : State → List ℕ → List ℕ
+readBack s cs = firstsOf Line s cs
+
+-- Text.
+
+abbrev pub hostByte : Stream → ℕ → List ℕ
+hostByte Host b = b ∷ []
+hostByte Line c = []
+hostByte Tu c = []
+
+abbrev pub hostBytes : List Event → List ℕ
+hostBytes [] = []
+hostBytes (e ∷ es) = hostByte (e .stream) (e .byte) ++ hostBytes es
+
+abbrev pub texts : List Out → List ℕ
+texts [] = []
+texts (x ∷ xs) = textOf x ++ texts xs
+
+-- what the command reader makes of the host bytes; of it the convertible text in capitals, without its shift requests
+abbrev pub plainText : State → List Event → List ℕ
+plainText s es = textBytes (texts (made (s .reader) (hostBytes es)))
+
+-- Premises.
+
+-- no connection command succeeds, and 49 and 74 are off; 70, 71 and 72 are as they like
+pub record Plain (s : State) (e : Event) : Type 0 where
+  pub stays : connects s e ≡ false
+  pub endings : s .settings .endings ≡ false
+  pub reports : s .settings .reports ≡ false
+
+-- at each moment
+abbrev pub AllPlain : State → List Event → Type 0
+AllPlain s [] = Unit {0}
+AllPlain s (e ∷ es) = Plain s e × AllPlain (step (e .stream) s (e .byte) .state) es
+
+-- with the byte e a mode 1 connection command succeeds
+pub record Joins (s : State) (e : Event) : Type 0 where
+  pub connects : connects s e ≡ true
+  pub mode1 : isMode1 (step (e .stream) s (e .byte) .state .connection) ≡ true
+
+-- Any calls from any state, however the bytes were cut and whatever the buffers: where the bytes taken are some, one that joins
+-- and then plain ones, the codes sent after it read back as the text after it.
+abbrev pub ReadingBack : Box → Type 0
+ReadingBack box =
+    (start : State) (gs : List Lent) (before : List Event) (e : Event) (after : List Event) → tookAll box start gs ≡ before ++ (e ∷ after)
+    → let s = run start before in
+    let joined = step (e .stream) s (e .byte) .state in
+    Joins s e → AllPlain joined after → readBack joined (drop (length (lines start before)) (sentAll box start gs)) ≡ plainText joined after

@@ -1,0 +1,1 @@
+// The three demands, and the boxes that they shut out: theorems alone.
