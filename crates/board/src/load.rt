@@ -149,13 +149,20 @@ fn sender_of(b: [u8; 128]) -> Sender
     }
 }
 
+// The fields that the command reader has read, from offset 27 on.
+fn values_of(b: [u8; 128]) -> [u8; 11]
+    ensures { λ r. ⌜ r ≡ part b 27 11 ⌝ }
+{
+    [b[27], b[28], b[29], b[30], b[31], b[32], b[33], b[34], b[35], b[36], b[37]]
+}
+
 // The command reader, from offset 23 on.
 fn reader_of(b: [u8; 128]) -> Reader
     ensures { λ r. ⌜ r ≡ readerOf b ⌝ }
 {
     Reader {
         stage: stage_of(b[23], b[24], b[25], b[26]),
-        values: [b[27], b[28], b[29], b[30], b[31], b[32], b[33], b[34], b[35], b[36], b[37]],
+        values: values_of(b),
     }
 }
 

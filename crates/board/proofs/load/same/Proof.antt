@@ -1,41 +1,56 @@
+-- `board::load::same` meets its contract: what was compared so far and the bytes that remain tell the whole.
+-- Assumes nothing.
+use Prim.Native.Nat.{_≤_, _<_, _-_}
+use mathlib.Core.Path.{_≡_, refl, sym, _∙_}
+use mathlib.Core.Bool.{_&&_}
+use native.Mathlib.Omega.{arith}
+use lib.ListN.{length, drop}
+use Rattle.board.specs.Spelling.{same}
+use Rattle.board.proofs.Same.{same-turn, same-end}
+use borrow.Author.Needs.{needs}
 use Rattle.board.proofs.load.same.Statement.{statement}
 use Rattle.board.proofs.load.same.Tie as tie
-use Rattle.board.proofs.load.same.Reads as reads
-use Rattle.board.proofs.load.same.Lts as lts
 
 abbrev Inv-loop : tie.InvT-loop
-Inv-loop a b alike₀ i₀ alike i = ?
+Inv-loop a b alike₀ i₀ alike i = (i ≤ 128) × (same a b ≡ (alike && same (drop i a) (drop i b)))
 
 abbrev μ-loop : tie.MeasureT-loop
-μ-loop a b alike₀ i₀ alike i = ?
+μ-loop a b alike₀ i₀ alike i = 128 - i
 
--- src/load.rt:182:5
 loop-holds : tie.Need-loop-holds Inv-loop μ-loop
-loop-holds c = ?
+loop-holds c = (search needs, refl)
 
--- src/load.rt:183:26
 array-read-alike : tie.Need-array-read-alike Inv-loop μ-loop
-array-read-alike c = ?
+array-read-alike c = search needs
 
--- src/load.rt:183:34
 array-read-alike-2 : tie.Need-array-read-alike-2 Inv-loop μ-loop
-array-read-alike-2 c = ?
+array-read-alike-2 c = search needs
 
--- src/load.rt:184:9
 add-i : tie.Need-add-i Inv-loop μ-loop
-add-i c = ?
+add-i c = search needs
 
--- src/load.rt:182:5
 loop-less : tie.Need-loop-less Inv-loop μ-loop
-loop-less c = ?
+loop-less c = search needs
 
--- src/load.rt:182:5
 loop-again : tie.Need-loop-again Inv-loop μ-loop
-loop-again c = ?
+loop-again c =
+    let l = c .before .loop in
+    let a = c .before .before .args in
+    let m : length (a .t1) ≡ 128 = c .before .before .good .0 .1 .0 .1 in
+    let n : length (a .t2) ≡ 128 = c .before .before .good .1 .0 .1 .0 .1 in
+    let h : l .i < length (a .t1) = omega arith in
+    let k : l .i < length (a .t2) = omega arith in
+    (omega arith, l .inv .1 ∙ same-turn (a .t1) (a .t2) (l .i) (l .alike) h k)
 
--- src/load.rt:177:1
 returns : tie.Need-returns Inv-loop μ-loop
-returns c = ?
+returns c =
+    let l = c .before .loop in
+    let a = c .before .before .args in
+    let m : length (a .t1) ≡ 128 = c .before .before .good .0 .1 .0 .1 in
+    let n : length (a .t2) ≡ 128 = c .before .before .good .1 .0 .1 .0 .1 in
+    let h : length (a .t1) ≤ l .i = omega arith in
+    let k : length (a .t2) ≤ l .i = omega arith in
+    sym (l .inv .1 ∙ same-end (a .t1) (a .t2) (l .i) (l .alike) h k)
 
 pub same-spec : {M : Type 1} → statement M
 same-spec =
