@@ -36,7 +36,7 @@ four Discard = refl
 
 -- over 128 zeros, the parts one after another make the spelling
 module _ (s : State) where
-  abbrev sender : List ℕ → List ℕ
+  abbrev pub sender : List ℕ → List ℕ
   sender y = knownByte (s .sender .held .case) ∷ y ++ lastByte (s .sender .last) ∷ []
 
   abbrev filled : List ℕ → List ℕ → List ℕ → List ℕ
@@ -44,13 +44,14 @@ module _ (s : State) where
       let front = puts (puts (puts (replicate 128 0) 0 (settingsBytes (s .settings))) 14 x) 17 (sender y) in
       puts (puts (set (set front 21 (caseByte (s .reading))) 22 (caseByte (s .incoming))) 23 z) 27 (part (s .reader .values) 0 11)
 
-  abbrev laid : List ℕ → List ℕ → List ℕ → List ℕ
+  abbrev pub laid : List ℕ → List ℕ → List ℕ → List ℕ
   laid x y z = settingsBytes (s .settings) ++ (x ++ (sender y ++ (caseByte (s .reading) ∷ caseByte (s .incoming) ∷ (z ++ part (s .reader .values) 0 11) ++ spare)))
 
   abbrev pub bytes : List ℕ
   bytes = filled (connectionBytes (s .connection)) (columnBytes (s .sender .held .column)) (stageBytes (s .reader .stage))
 
   pub filled-spelt : bytes ≡ spelt s
+  unfolding spelt
   filled-spelt = go _ _ _ (three (s .connection)) (two (s .sender .held .column)) (four (s .reader .stage))
     where
       go : (x y z : List ℕ) → part x 0 3 ≡ x → part y 0 2 ≡ y → part z 0 4 ≡ z → filled x y z ≡ laid x y z

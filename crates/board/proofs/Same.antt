@@ -10,7 +10,7 @@ use lib.Dec.{eqb}
 use lib.ListN.{length, getD, drop, drop-of-length-le}
 use lib.Seq.{drop-cons}
 use Rattle.laws.proofs.Both.{both}
-use Rattle.board.specs.Spelling.{same}
+use Rattle.board.specs.Spelling.{same, spelt, stateOf, spells}
 
 -- one byte more, while the others remain
 pub same-turn : (xs ys : List ℕ) (i : ℕ) (t : Bool) → i < length xs → i < length ys → t && same (drop i xs) (drop i ys) ≡ (t && eqb (getD xs i 0) (getD ys i 0)) && same (drop (i + 1) xs) (drop (i + 1) ys)
@@ -31,3 +31,8 @@ same-eq (x ∷ xs) (y ∷ ys) h =
 pub same-self : (xs : List ℕ) → same xs xs ≡ true
 same-self [] = refl
 same-self (x ∷ xs) = rw (eq-eqb x x refl) (same-self xs)
+
+-- bytes that spell a state are its spelling
+pub its-spelling : (b : List ℕ) → spells b ≡ true → b ≡ spelt (stateOf b)
+unfolding spells
+its-spelling b h = same-eq b (spelt (stateOf b)) h

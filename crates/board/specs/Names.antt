@@ -24,3 +24,8 @@ pub use Rattle.sender.specs.declared.Record.{Record}
 pub use Rattle.sender.specs.declared.Sender.{Sender}
 pub use Rattle.linebox.specs.declared.State.{State}
 pub use Rattle.board.specs.declared.Loaded.{Loaded}
+pub use Rattle.linebox.specs.declared.Stream.{Stream}
+pub use Rattle.linebox.specs.declared.Stream.the-variants.{Host, Line, Tu}
+pub use Rattle.linebox.specs.declared.Answer.{Answer}
+pub use Rattle.linebox.specs.declared.Answer.the-variants.{All, NoRoom, NoCode, Unsound}
+pub use Rattle.linebox.specs.declared.Called.{Called}

@@ -82,7 +82,7 @@ abbrev pub spare : List ℕ
 spare = replicate 90 0
 
 -- the whole state; 21 and 22 are the reading cases
-abbrev pub spelt : State → List ℕ
+unfoldable pub spelt : State → List ℕ
 spelt s = settingsBytes (s .settings) ++ (connectionBytes (s .connection) ++ (senderBytes (s .sender) ++ (caseByte (s .reading) ∷ caseByte (s .incoming) ∷ readerBytes (s .reader) ++ spare)))
 
 -- Bytes as fields. A byte that no field's value has reads as some value: it is the spelling that tells.
@@ -132,7 +132,7 @@ stageOf n x y z = cond (eqb n 4) (Lettered (eqb x 1) (eqb y 1)) (cond (eqb n 5) 
 abbrev pub readerOf : List ℕ → Reader
 readerOf b = record { stage = stageOf (getD b 23 0) (getD b 24 0) (getD b 25 0) (getD b 26 0); values = part b 27 11 }
 
-abbrev pub stateOf : List ℕ → State
+unfoldable pub stateOf : List ℕ → State
 stateOf b = record {
   settings = settingsOf b;
   connection = connectionOf (getD b 14 0) (getD b 15 0) (getD b 16 0);

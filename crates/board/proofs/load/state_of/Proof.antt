@@ -1,5 +1,6 @@
 -- `board::load::state_of` meets its contract.
 -- Assumes nothing.
+use Rattle.board.specs.Spelling.{stateOf}
 use borrow.Author.Needs.{needs}
 use Rattle.board.proofs.load.state_of.Statement.{statement}
 use Rattle.board.proofs.load.state_of.Tie as tie
@@ -38,6 +39,7 @@ reader-of-requires : tie.Need-reader-of-requires
 reader-of-requires c κs = search needs
 
 returns : tie.Need-returns
+unfolding stateOf
 returns c = rw (c .before .before .before .before .before .settings-of .ensures, c .before .before .before .before .connection-of .ensures, c .before .before .before .sender-of .ensures, c .before .before .case-of .ensures, c .before .case-of2 .ensures, c .reader-of .ensures)
 
 pub state-of-spec : {M : Type 1} → statement M
