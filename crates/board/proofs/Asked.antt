@@ -2,14 +2,14 @@
 -- Assumes nothing.
 use Prim.Native.Nat.{ℕ}
 use mathlib.Core.Path.{_≡_, refl, sym}
-use mathlib.Core.Bool.{Bool, true, false, cond}
+use mathlib.Core.Bool.{Bool, true, false, cond, _&&_, false≢true}
 use mathlib.Core.List.{List, [], _∷_}
 use Rattle.linebox.specs.State.{sound}
 use Rattle.linebox.specs.Call.{Done, call, taking, stopped, numberOf}
 use Rattle.linebox.specs.Byte.{Calls, CallsOne}
 use Rattle.board.specs.Names.{Stream, Unsound, Called}
 use Rattle.board.specs.Spelling.{spells, spelt, stateOf, loaded}
-use Rattle.board.specs.Calls.{after, asked, Boards, BoardsOne}
+use Rattle.board.specs.Calls.{spellsSound, after, asked, Boards, BoardsOne}
 use Rattle.board.proofs.Same.{its-spelling}
 
 module _ (t : Stream) (b xs : List ℕ) (n m : ℕ) where
@@ -38,3 +38,12 @@ module _ (t : Stream) (b xs : List ℕ) (n m : ℕ) where
 
   pub boarded-one : (old now : List ℕ) (r : Called) → loaded b .spelt ≡ true → CallsOne (call t (stateOf b) xs n m) old now r → BoardsOne b (asked t b xs n m) old (spelt (r .state)) now (r .taken ∷ r .first ∷ []) (numberOf (r .answer))
   boarded-one old now r h e = rw (e .gives, h) (record { answer = refl; bytes = saved h; told = refl; one = e .one })
+
+  -- what is not the spelling of a sound state is answer 3, and nothing is taken or written
+  pub three : spellsSound b ≡ false → asked t b xs n m ≡ stopped Unsound (stateOf b)
+  three = go (spells b) (sound (stateOf b))
+    where
+      go : (x y : Bool) → x && y ≡ false → cond x (ended y) (stopped Unsound (stateOf b)) ≡ stopped Unsound (stateOf b)
+      go true true h = absurd (false≢true (sym h))
+      go true false h = refl
+      go false y h = refl

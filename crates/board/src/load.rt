@@ -22,11 +22,7 @@ use settings::Settings;
 fn case_of(n: u8) -> Case
     ensures { λ r. ⌜ r ≡ caseOf n ⌝ }
 {
-    if n == 1 {
-        Case::Letters
-    } else {
-        Case::Figures
-    }
+    if n == 1 { Case::Letters } else { Case::Figures }
 }
 
 // The record's case of a byte.
@@ -153,7 +149,19 @@ fn sender_of(b: [u8; 128]) -> Sender
 fn values_of(b: [u8; 128]) -> [u8; 11]
     ensures { λ r. ⌜ r ≡ part b 27 11 ⌝ }
 {
-    [b[27], b[28], b[29], b[30], b[31], b[32], b[33], b[34], b[35], b[36], b[37]]
+    [
+        b[27],
+        b[28],
+        b[29],
+        b[30],
+        b[31],
+        b[32],
+        b[33],
+        b[34],
+        b[35],
+        b[36],
+        b[37],
+    ]
 }
 
 // The command reader, from offset 23 on.

@@ -24,7 +24,7 @@ with-values-requires : tie.Need-with-values-requires
 with-values-requires c κs = search needs
 
 returns : tie.Need-returns
-returns c = 
+returns c =
     rw (c .with-values .ensures, c .before .with-stage .ensures, c .before .before .with-cases .ensures, c .before .before .before .with-sender .ensures, c .before .before .before .before .with-connection .ensures, c .before .before .before .before .before .with-settings .ensures)
     (filled-spelt (c .before .before .before .before .before .before .before .before .before .before .args .s))
 

@@ -37,7 +37,7 @@ array-write-bytes-4 : tie.Need-array-write-bytes-4
 array-write-bytes-4 c = search needs
 
 returns : tie.Need-returns
-returns c = 
+returns c =
     let a = c .before .before .before .before .args in
     rw (c .before .before .column-bytes .ensures, c .before .known-byte .ensures, c .last-byte .ensures)
     (ap (λ (x : List ℕ). puts (a .b) 17 (knownByte (a .s .held .case) ∷ x ++ lastByte (a .s .last) ∷ [])) (two (a .s .held .column)))
