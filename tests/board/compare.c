@@ -45,7 +45,7 @@ struct side {
 };
 static struct side archive, model;
 static uint8_t *filling;
-static unsigned long calls[KINDS], answers[KINDS][4], differences, bytes_in, bytes_out;
+static unsigned long calls[KINDS], answers[KINDS][4], modes[12], stages[8], differences, bytes_in, bytes_out;
 
 static void fill(struct side *s, const struct call *c) {
   memset(s->state, 0xA5, sizeof s->state);
@@ -175,6 +175,10 @@ static void compare(const struct call *c) {
     same(c);
   }
   answers[c->kind][model.answer]++;
+  if (c->kind != FIND && model.answer != 3) {
+    modes[c->state[14]]++;
+    stages[c->state[23]]++;
+  }
   bytes_in += c->kind == FIND ? c->in_len : model.done[1];
   if (c->kind != FIND) bytes_out += model.done[2] + (c->kind == TU ? 0 : model.done[3]);
 }
@@ -635,7 +639,15 @@ static int summary(void) {
       if (answers[k][a] > 0) printf("  %d: %lu", a, answers[k][a]);
     printf("\n");
   }
-  printf("%lu bytes taken, %lu written\n", bytes_in, bytes_out);
+  printf("%lu bytes taken, %lu written\nsound states by mode  ", bytes_in, bytes_out);
+  for (int m = 0; m < 12; m++)
+    if (modes[m] > 0) printf("  %d: %lu", m, modes[m]);
+  printf("\nby stage of the reader");
+  for (int i = 0; i < 8; i++) {
+    printf("  %d: %lu", i, stages[i]);
+    if (stages[i] < 100) thin = 1;
+  }
+  printf("\n");
   for (int e = 0; e < SEEN_EVENTS; e++) {
     printf("%9lu  %s\n", model_seen[e], events[e]);
     if (model_seen[e] < 100) thin = 1;
