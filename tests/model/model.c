@@ -472,8 +472,9 @@ uint32_t model_fresh(uint8_t state[MODEL_STATE]) {
   return 0;
 }
 
-static void copy(uint8_t *to, const uint8_t *from, size_t n) {
-  for (size_t i = 0; i < n; i++) to[i] = from[i];
+/* Into the part of a buffer still free; a null buffer is never touched. */
+static void copy(uint8_t *buffer, size_t at, const uint8_t *from, size_t n) {
+  for (size_t i = 0; i < n; i++) buffer[at + i] = from[i];
 }
 
 uint32_t model_host(uint8_t state[MODEL_STATE], const uint8_t *in, size_t in_len, uint8_t *line, size_t line_len,
@@ -499,8 +500,8 @@ uint32_t model_host(uint8_t state[MODEL_STATE], const uint8_t *in, size_t in_len
         answer = NO_ROOM;
         break;
       }
-      copy(line + lines, codes, (size_t)(l - codes));
-      copy(host + hosts, bytes, (size_t)(h - bytes));
+      copy(line, lines, codes, (size_t)(l - codes));
+      copy(host, hosts, bytes, (size_t)(h - bytes));
       lines += (size_t)(l - codes);
       hosts += (size_t)(h - bytes);
     }
@@ -582,7 +583,7 @@ uint32_t model_tu(uint8_t state[MODEL_STATE], const uint8_t *codes, size_t codes
       answer = NO_ROOM;
       break;
     }
-    copy(line + lines, out, n);
+    copy(line, lines, out, n);
     lines += n;
   }
   memcpy(state, &box, sizeof box);
