@@ -25,7 +25,7 @@ static int percent(unsigned n) { return below(100) < n; }
 
 enum { HOST, LINE, TU, FIND, KINDS };
 static const char *const kind_name[KINDS] = {"host", "line", "tu", "find"};
-enum { LONGEST = 70000, ROOM = 6 * LONGEST, GUARD = 24 };
+enum { LONGEST = 70000, ROOM = 6 * LONGEST, GUARD = 25 }; /* an odd guard: nothing is aligned */
 
 struct call {
   int kind;
