@@ -339,18 +339,20 @@ static uint8_t *obey(struct box *box, uint8_t *out) {
 
 /* ---- The command reader ---- */
 
-/* Goes to a stage outside a command; nothing of a command is kept there. */
+/* Goes to a stage that keeps nothing of a command. The fields mean nothing there, and model_host clears them. */
 static void leave(struct box *box, uint8_t stage) {
   box->stage = stage;
   box->note = box->form = box->count = 0;
-  memset(box->field, 0, FIELDS);
 }
+
+static void clear_fields(struct box *box) { memset(box->field, 0, FIELDS); }
 
 /* One byte of a field. */
 static void field_byte(struct box *box, uint8_t byte) {
   uint8_t at = box->count;
   if (byte == ',') {
     if (at < FIELDS) box->count++;
+    if (at + 1 < FIELDS) box->field[at + 1] = 0;
     box->form = NOTHING;
   } else if (byte >= '0' && byte <= '9' && box->form != X_ALONE) {
     box->form = DIGITS;
@@ -387,8 +389,12 @@ static void command_byte(struct box *box, uint8_t byte) {
     box->form = 0;
     return;
   case LETTER_2:
-    if (byte == ',') box->stage = FIELD;
-    else leave(box, DISCARD);
+    if (byte != ',') {
+      leave(box, DISCARD);
+      return;
+    }
+    box->stage = FIELD;
+    clear_fields(box);
     return;
   case FIELD: field_byte(box, byte); return;
   default: return; /* DISCARD */
@@ -506,6 +512,7 @@ uint32_t model_host(uint8_t state[MODEL_STATE], const uint8_t *in, size_t in_len
       hosts += (size_t)(h - bytes);
     }
   }
+  if (taken > 0 && box.stage != FIELD) clear_fields(&box);
   memcpy(state, &box, sizeof box);
   done[0] = taken;
   done[1] = lines;
