@@ -1,0 +1,4 @@
+pub mod Names
+pub mod Spelling
+pub mod Calls
+pub mod Finds

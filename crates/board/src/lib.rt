@@ -1,0 +1,146 @@
+// The box for the boards' C: the state as 128 bytes that the caller keeps, and one function for each call.
+ghost use mathlib.Core.Path.{_≡_};
+ghost use mathlib.Core.List.{[], _∷_};
+ghost use lib.ListN.{length};
+ghost use Rattle.linebox.specs.State.{freshBox};
+ghost use Rattle.linebox.specs.Call.{numberOf};
+ghost use Rattle.board.specs.Names.{Host as Names·Host, Line as Names·Line, Tu as Names·Tu};
+ghost use Rattle.board.specs.Spelling.{spelt};
+ghost use Rattle.board.specs.Calls.{asked, Boards, BoardsOne};
+ghost use Rattle.board.specs.Finds.{Finds};
+use linebox::Answer;
+use linebox::Called;
+use linebox::State;
+use load::load;
+use save::save;
+
+mod load;
+mod save;
+
+// What bytes read as, and whether they spell it.
+pub struct Loaded {
+    pub spelt: bool,
+    pub state: State,
+}
+
+// The number of an answer.
+fn number_of(a: Answer) -> u32
+    ensures { λ r. ⌜ r ≡ numberOf a ⌝ }
+{
+    match a {
+        Answer::All => 0,
+        Answer::NoRoom => 1,
+        Answer::NoCode => 2,
+        Answer::Unsound => 3,
+    }
+}
+
+// What was taken, and what was written to each buffer in the order lent.
+fn counts(c: Called) -> [u64; 3]
+    ensures { λ r. ⌜ r ≡ c .taken ∷ c .first ∷ c .second ∷ [] ⌝ }
+{
+    [c.taken as u64, c.first as u64, c.second as u64]
+}
+
+// A fresh box. Answers 0.
+#[no_mangle]
+pub extern "C" fn linebox_fresh(state: &mut [u8; 128]) -> u32
+    ensures { λ r. ⌜ (r ≡ 0) × (now (state .exit) ≡ spelt freshBox) ⌝ }
+{
+    *state = save(linebox::soundness::fresh());
+    0
+}
+
+// Host bytes.
+#[no_mangle]
+pub extern "C" fn linebox_host(
+    state: &mut [u8; 128],
+    input: &[u8],
+    line: &mut [u8],
+    host: &mut [u8],
+    done: &mut [u64; 3],
+) -> u32
+    ensures { λ r. ⌜
+        Boards (now (state .entry)) (asked Names·Host (now (state .entry)) (now (input .entry)) (length (now (line .entry))) (length (now (host .entry)))) (now (line .entry)) (now (host .entry)) (now (state .exit)) (now (line .exit)) (now (host .exit)) (now (done .exit)) r
+        ⌝ }
+{
+    let x = load(*state);
+    if !x.spelt {
+        *done = [0, 0, 0];
+        return 3;
+    }
+    let s = x.state;
+    let c = linebox::calls::host(s, input, 0, line, host);
+    let next = c.state;
+    let answer = c.answer;
+    *state = save(next);
+    *done = counts(c);
+    number_of(answer)
+}
+
+// Codes from the line.
+#[no_mangle]
+pub extern "C" fn linebox_line(
+    state: &mut [u8; 128],
+    codes: &[u8],
+    host: &mut [u8],
+    tu: &mut [u8],
+    done: &mut [u64; 3],
+) -> u32
+    ensures { λ r. ⌜
+        Boards (now (state .entry)) (asked Names·Line (now (state .entry)) (now (codes .entry)) (length (now (host .entry))) (length (now (tu .entry)))) (now (host .entry)) (now (tu .entry)) (now (state .exit)) (now (host .exit)) (now (tu .exit)) (now (done .exit)) r
+        ⌝ }
+{
+    let x = load(*state);
+    if !x.spelt {
+        *done = [0, 0, 0];
+        return 3;
+    }
+    let s = x.state;
+    let c = linebox::calls::line(s, codes, 0, host, tu);
+    let next = c.state;
+    let answer = c.answer;
+    *state = save(next);
+    *done = counts(c);
+    number_of(answer)
+}
+
+// Codes from the TU.
+#[no_mangle]
+pub extern "C" fn linebox_tu(
+    state: &mut [u8; 128],
+    codes: &[u8],
+    line: &mut [u8],
+    done: &mut [u64; 2],
+) -> u32
+    ensures { λ r. ⌜
+        BoardsOne (now (state .entry)) (asked Names·Tu (now (state .entry)) (now (codes .entry)) (length (now (line .entry))) 0) (now (line .entry)) (now (state .exit)) (now (line .exit)) (now (done .exit)) r
+        ⌝ }
+{
+    let x = load(*state);
+    if !x.spelt {
+        *done = [0, 0];
+        return 3;
+    }
+    let s = x.state;
+    let c = linebox::calls::tu(s, codes, 0, line);
+    let next = c.state;
+    let answer = c.answer;
+    *state = save(next);
+    *done = [c.taken as u64, c.first as u64];
+    number_of(answer)
+}
+
+// Where the earliest complete message stands, from its hyphen to its last digit. Answers 1, or 0 and both places 0.
+#[no_mangle]
+pub extern "C" fn linebox_find(bytes: &[u8], at: &mut [u64; 2]) -> u32
+    ensures { λ r. ⌜ Finds (now (bytes .entry)) (now (at .exit)) r ⌝ }
+{
+    let p = message::locate(bytes);
+    if p.len == 0 {
+        *at = [0, 0];
+        return 0;
+    }
+    *at = [p.start as u64, p.len as u64];
+    1
+}

@@ -1,0 +1,121 @@
+/* The line box for the boards' C. Link libboard.a, which `rt staticlib board` writes to target/staticlib/; today it is for x86-64
+ * alone.
+ *
+ * The caller keeps the box's state as 128 bytes. Calls keep nothing between them: a copy of the 128 bytes is a copy of the box, and
+ * two states are two boxes.
+ *
+ * Answers of the three calls:
+ *   0  every byte was taken.
+ *   1  the next byte's output does not fit: go on from the first byte not taken, with more room.
+ *   2  the next byte of a code stream is over 31, and is no code; it was not taken.
+ *   3  the 128 bytes are not the spelling of a sound state: nothing was taken and nothing was changed.
+ *
+ * done[0] is how many bytes were taken; done[1], and done[2] where there is one, how many were written to each lent buffer, in the
+ * order lent. They are written with every answer, and all 0 with answer 3. Of a lent buffer only that many bytes at its front are
+ * written; the others keep what they held.
+ *
+ * One byte makes at most 16 codes for the line and at most 36 bytes for the host (a line code makes at most one byte for the host or
+ * one for the TU), so the smallest useful buffers are LINEBOX_LINE_LEAST and LINEBOX_HOST_LEAST: with these, answer 1 is never final.
+ *
+ * What may not overlap: the state, done (or at) and the lent buffers are written, and each of them shares no byte with any other
+ * argument. Inputs are only read.
+ *
+ * A null pointer goes with length 0. The state, done and at are never null.
+ *
+ * After a power cut, the board writes the connection again before any text: the printer may have moved, and only writing a connection
+ * makes the record unknown. */
+#ifndef LINEBOX_H
+#define LINEBOX_H
+
+#include <stddef.h>
+#include <stdint.h>
+
+#ifdef __cplusplus
+extern "C" {
+#endif
+
+enum { LINEBOX_STATE = 128 };
+
+/* The smallest useful buffers for codes to the line and for bytes to the host. */
+enum { LINEBOX_LINE_LEAST = 16, LINEBOX_HOST_LEAST = 36 };
+
+/* The state's bytes. A board may show them and keep them; bytes that spell no sound state are answer 3.
+ *
+ *   offset    field                                                    values
+ *   0         option 49, line endings                                  0, 1
+ *   1         option 50, limit                                         10 to 80
+ *   2         option 70, unshift on space                              0, 1
+ *   3         option 71, unshift on return                             0, 1
+ *   4         option 72, filter                                        0, 1
+ *   5         option 74, SI/SO reports                                 0, 1
+ *   6 to 13   string 90, eight codes                                   by its rules
+ *   14        connection's mode                                        1, 4, 10, 11
+ *   15        port (0 in modes 10 and 11)                              1 to 4 (mode 1), 1 to 3 (mode 4)
+ *   16        speed (0 in modes 10 and 11)                             60, 66, 75, 100
+ *   17        record: case                                             0 unknown, 1 letters, 2 figures
+ *   18        record: whether the column is known                      0, 1
+ *   19        record: column (0 while unknown)                         0 to 255
+ *   20        last item                                                0 any other or none, 1 LTRS, 2 FIGS
+ *   21        reading case                                             1 letters, 2 figures
+ *   22        incoming reading case                                    1 letters, 2 figures
+ *   23        command reader's stage                                   0 text, 1 text after a command's CR (an LF is swallowed),
+ *                                                                      2 `/` held, 3 `/.` came, 4 one letter, 5 both letters,
+ *                                                                      6 in a field, 7 discarding
+ *   24        stage 4: 1 if the letter is small;
+ *             stages 5 and 6: type, 0 other, 1 TW, 2 TR; else 0
+ *   25        stage 4: 1 if the letter is T; stage 6: field's form,
+ *             0 nothing yet, 1 digits, 2 X; else 0
+ *   26        stage 6: which field is read, 0 to 11, 11 for too
+ *             many; else 0
+ *   27 to 37  fields read, eleven bytes                                0 to 255
+ *   38 to 127                                                          0
+ */
+enum {
+    LINEBOX_AT_ENDINGS = 0,
+    LINEBOX_AT_LIMIT = 1,
+    LINEBOX_AT_UNSHIFT_SPACE = 2,
+    LINEBOX_AT_UNSHIFT_RETURN = 3,
+    LINEBOX_AT_FILTER = 4,
+    LINEBOX_AT_REPORTS = 5,
+    LINEBOX_AT_STRING = 6,
+    LINEBOX_AT_MODE = 14,
+    LINEBOX_AT_PORT = 15,
+    LINEBOX_AT_SPEED = 16,
+    LINEBOX_AT_CASE = 17,
+    LINEBOX_AT_COLUMN_KNOWN = 18,
+    LINEBOX_AT_COLUMN = 19,
+    LINEBOX_AT_LAST = 20,
+    LINEBOX_AT_READING = 21,
+    LINEBOX_AT_INCOMING = 22,
+    LINEBOX_AT_STAGE = 23,
+    LINEBOX_AT_TYPE = 24,
+    LINEBOX_AT_FORM = 25,
+    LINEBOX_AT_FIELD = 26,
+    LINEBOX_AT_FIELDS = 27,
+    LINEBOX_AT_SPARE = 38
+};
+
+/* A fresh box: factory settings, mode 11, nothing held. Answers 0. */
+uint32_t linebox_fresh(uint8_t state[LINEBOX_STATE]);
+
+/* Bytes from the host: text goes to the line, commands are obeyed and answered to the host. */
+uint32_t linebox_host(uint8_t state[LINEBOX_STATE], const uint8_t *in, size_t in_len,
+                      uint8_t *line, size_t line_len, uint8_t *host, size_t host_len, uint64_t done[3]);
+
+/* Codes from the line: to the host in mode 1, to the TU in mode 4. */
+uint32_t linebox_line(uint8_t state[LINEBOX_STATE], const uint8_t *codes, size_t codes_len,
+                      uint8_t *host, size_t host_len, uint8_t *tu, size_t tu_len, uint64_t done[3]);
+
+/* Codes from the TU: to the line in mode 4. Request P2 will lend this call a host buffer: then its prototype changes. */
+uint32_t linebox_tu(uint8_t state[LINEBOX_STATE], const uint8_t *codes, size_t codes_len,
+                    uint8_t *line, size_t line_len, uint64_t done[2]);
+
+/* Where the earliest complete message stands in bytes: 1, with at[0] its start and at[1] its length, from the hyphen to the last
+ * digit; or 0 with both 0. */
+uint32_t linebox_find(const uint8_t *bytes, size_t len, uint64_t at[2]);
+
+#ifdef __cplusplus
+}
+#endif
+
+#endif

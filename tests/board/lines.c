@@ -1,0 +1,488 @@
+/* The traced lines of the requirements, the firmware paper's tables and command examples, and one line for each reading
+   of them, through the C calls; what is expected is written by hand. */
+#include "box.h"
+#include <stdio.h>
+#include <stdlib.h>
+#include <string.h>
+
+static unsigned passed, failed;
+
+static void check(int good, const char *name, const char *expected, const char *got) {
+  if (good) passed++;
+  else failed++;
+  if (!good) printf("failed: %s\n  expected: %s\n  got:      %s\n", name, expected, got);
+}
+
+/* ---- Feeding a box and writing down what comes out ---- */
+
+enum { ROOM = 4096 };
+static uint8_t state[LINEBOX_STATE], first[ROOM], second[ROOM]; /* the buffers in the order lent */
+static uint64_t done[3];
+
+static void host(const char *bytes) {
+  size_t n = strlen(bytes);
+  uint32_t answer = linebox_host(state, (const uint8_t *)bytes, n, first, ROOM, second, ROOM, done);
+  if (answer != 0 || done[0] != n) check(0, bytes, "all taken", "not all taken");
+}
+
+static void start(const char *setup) {
+  if (linebox_fresh(state) != 0) check(0, "fresh", "0", "not 0");
+  host(setup);
+}
+
+/* Codes in decimal, with a space between them. */
+static const char *decimals(const uint8_t *codes, size_t n) {
+  static char out[4 * ROOM];
+  size_t at = 0;
+  for (size_t i = 0; i < n; i++) {
+    if (i > 0) out[at++] = ' ';
+    if (codes[i] >= 100) out[at++] = (char)('0' + codes[i] / 100);
+    if (codes[i] >= 10) out[at++] = (char)('0' + codes[i] / 10 % 10);
+    out[at++] = (char)('0' + codes[i] % 10);
+  }
+  out[at] = 0;
+  return out;
+}
+
+static size_t parse(const char *numbers, uint8_t *out) {
+  size_t n = 0;
+  char *end;
+  for (const char *p = numbers; *p != 0; p = end) {
+    unsigned long value = strtoul(p, &end, 10);
+    if (end == p) break;
+    out[n++] = (uint8_t)value;
+  }
+  return n;
+}
+
+static const char *shown(const uint8_t *bytes, size_t n) {
+  static char out[2 * ROOM];
+  size_t at = 0;
+  for (size_t i = 0; i < n; i++) {
+    if (bytes[i] == 13 || bytes[i] == 10) out[at++] = '\\';
+    out[at++] = bytes[i] == 13 ? 'r' : bytes[i] == 10 ? 'n' : (char)bytes[i];
+  }
+  out[at] = 0;
+  return out;
+}
+
+/* ---- The tables of lines ---- */
+
+#define MODE_1 "/.TW,1,2,1,60\r"
+#define MODE_4 "/.TW,4,2,1,60\r"
+#define ON(id) "/.TW," id ",1,1\r"
+#define LIMIT_10 ON("49") "/.TW,50,1,10\r"
+#define STRING(codes) "/.TW,90,8," codes "\r"
+#define TEN "\rABCDEFGHIJ" /* a return and ten letters */
+
+struct trace {
+  const char *name, *setup, *input, *expected;
+};
+
+/* Host text, and the codes that go to the line. */
+static const struct trace host_lines[] = {
+    /* the requirements' traced lines */
+    {"fresh mode 1, a1 2", MODE_1, "a1 2", "31 3 27 23 4 19"},
+    {"the same, 70 on", MODE_1 ON("70"), "a1 2", "31 3 27 23 4 31 27 19"},
+    {"71 on, 1 CR 2", MODE_1 ON("71"), "1\r2", "27 23 8 31 27 19"},
+    {"70 on, first text a space", MODE_1 ON("70"), " ", "4 31"},
+    {"fresh, /A", MODE_1, "/A", "27 29 31 3"},
+    {"limit 10, ten letters after a CR", MODE_1 LIMIT_10, TEN, "8 31 3 25 14 9 1 13 26 20 6 11"},
+    {"then K", MODE_1 LIMIT_10 TEN, "K", "8 8 2 31 31 15"},
+    {"there 5 instead", MODE_1 LIMIT_10 TEN, "5", "8 8 2 31 31 27 16"},
+    {"there BEL instead", MODE_1 LIMIT_10 TEN, "\a", "27 5"},
+    {"eleven letters with no CR yet", MODE_1 LIMIT_10, "ABCDEFGHIJK", "31 3 25 14 9 1 13 26 20 6 11 15"},
+    {"the log sheet's example", "", MODE_1 "TTY1", "31 16 16 21 27 23"},
+    /* slips to shut out */
+    {"a figure after a space, 70 on", MODE_1 ON("70"), "1 2", "27 23 4 31 27 19"},
+    {"the ending's two LTRS with 72 on", MODE_1 LIMIT_10 ON("72") TEN "\017", "K", "8 8 2 31 31 15"},
+    {"BEL and shifts take no column", MODE_1 LIMIT_10 "\rABCDEFGHI\a\017\016\a", "JK", "31 11 8 8 2 31 31 15"},
+    {"the LF of a command's CR LF", MODE_1, ON("70") "\nA", "31 3"},
+    /* sending */
+    {"small letters are capitals", MODE_1, "abz", "31 3 25 17"},
+    {"LF, BLANK by their codes", MODE_1, "A\n\nB", "31 3 2 2 25"},
+    {"bytes without a code", MODE_1, "A%\001\177\200\377*B", "31 3 25"},
+    {"SO and SI are explicit shifts", MODE_1, "\016\0161\017A", "27 27 23 31 3"},
+    {"72 drops the same shift again", MODE_1 ON("72"), "\016\016\017\017\016", "27 31 27"},
+    {"72 looks at items, not at the record", MODE_1 ON("72"), "1\0161", "27 23 27 23"},
+    {"72 switched on between two SO", MODE_1 "\016" ON("72"), "\016", ""},
+    {"SO / SO sends both", MODE_1 ON("72"), "\016/\016", "27 29 27"},
+    {"a byte without a code is no item", MODE_1 ON("72"), "\016%\016", "27"},
+    {"connecting forgets the last item", MODE_1 ON("72") "\016", MODE_1 "\016", "27"},
+    {"connecting makes the record unknown", MODE_1 "A", MODE_1 "A", "31 3"},
+    {"a connection that errs changes nothing", MODE_1 "A", "/.TW,1,2,5,60\rA", "3"},
+    {"250 leaves record and connection", MODE_1 ON("70") "1", "/.TW,250,0\r1 1", "23 4 23"},
+    {"option 70 in letters", MODE_1 ON("70") "A", " A", "4 3"},
+    {"option 71, first text CR", MODE_1 ON("71"), "\r\r", "8 31 8"},
+    {"ending before a space", MODE_1 LIMIT_10 TEN, " ", "8 8 2 31 31 4"},
+    {"no ending before CR, LF, shift", MODE_1 LIMIT_10 TEN, "\n\016\r", "2 27 8"},
+    {"an ending at the limit once, then ten more", MODE_1 LIMIT_10 TEN "K", "LMNOPQRSTU",
+     "18 28 12 24 22 23 10 5 16 8 8 2 31 31 7"},
+    {"ending obeys 71", MODE_1 LIMIT_10 ON("71") "\r1111111111", "1", "8 31 8 2 31 31 27 23"},
+    {"ending with a space obeys 70", MODE_1 LIMIT_10 ON("70") STRING("8,27,4,0,0,0,0,0") TEN, "A", "8 27 4 31 3"},
+    {"ending's letter code in the case on record", MODE_1 LIMIT_10 STRING("8,3,0,0,0,0,0,0") "\r1111111111", "1",
+     "8 3 23"},
+    {"ending's letter code takes a column", MODE_1 LIMIT_10 STRING("8,3,0,0,0,0,0,0") TEN "ABCDEFGHI", "J",
+     "8 3 11"},
+    {"ending's code 5 in figures is BELL", MODE_1 LIMIT_10 STRING("8,5,0,0,0,0,0,0") "\r1111111111" "111111111", "11",
+     "23 8 5 23"},
+    {"ending with the case unknown", MODE_1 LIMIT_10 STRING("8,3,0,0,0,0,0,0") "\r          ", "1",
+     "8 31 3 27 23"},
+    {"column stays at 255 and is known", MODE_1 "\r0000000000000000000000000000000000000000000000000000000000000000"
+     "0000000000000000000000000000000000000000000000000000000000000000000000000000000000000000000000000000"
+     "0000000000000000000000000000000000000000000000000000000000000000000000000000000000000000000000000000"
+     ON("49"), "00", "8 8 2 31 31 27 22 22"},
+    {"mode 11 drops text", "", "ABC", ""},
+    {"mode 4 drops text", MODE_4, "ABC 1\r", ""},
+    /* the command reader's text */
+    {"two slashes", MODE_1, "//A", "27 29 29 31 3"},
+    {"// and a command", MODE_1, "/" ON("70"), "27 29"},
+    {"/ and CR LF is text", MODE_1, "/\r\n", "27 29 8 2"},
+    {"/ inside a command, then text", MODE_1, "/.TW,4/A\r\n", "27 29 31 3 8 2"},
+    {"an LF ends a command and arms nothing", MODE_1, "/.TW,70,1,1\n\nA", "2 31 3"},
+    {"only one LF is swallowed", MODE_1, "/.TW,70,1,1\r\n\nA", "2 31 3"},
+    {"an LF is swallowed after a discarded command", MODE_1, "/.?\r\nA", "31 3"},
+    {"and after one in its type", MODE_1, "/.T\r\nA", "31 3"},
+    {"not after a byte between", MODE_1, "/.TW,49\rA\nB", "31 3 2 25"},
+    {"not after a byte without a code between", MODE_1, "/.TW,49\r%\nB", "2 31 25"},
+    {"a command between does not touch the record", MODE_1 "1", "/.TR,0,0\r1", "23"},
+};
+
+/* TU codes, and the codes that go to the line. */
+static const struct trace tu_lines[] = {
+    {"fresh mode 4, 70 on", MODE_4 ON("70"), "27 23 4 23", "27 23 4 31 23"},
+    {"fresh mode 4, 72 on", MODE_4 ON("72"), "31 31 31 5", "31 5"},
+    {"figures after an ending that holds LTRS", MODE_4 LIMIT_10, "8 27 23 23 23 23 23 23 23 23 23 23 23",
+     "8 27 23 23 23 23 23 23 23 23 23 23 8 8 2 31 31 27 23"},
+    {"71 on", MODE_4 ON("71"), "27 23 8 23", "27 23 8 31 23"},
+    {"70 off", MODE_4, "27 23 4 23", "27 23 4 23"},
+    {"a dropped shift sets the incoming case", MODE_4 ON("72") ON("70"), "27 4 27 23", "27 4 31 27 23"},
+    {"first a letter", MODE_4, "3 23 0 2", "31 3 23 0 2"},
+    {"BELL takes no column, S does", MODE_4 LIMIT_10, "8 3 3 3 3 3 3 3 3 3 27 5 31 5 5",
+     "8 31 3 3 3 3 3 3 3 3 3 27 5 31 5 8 8 2 31 31 5"},
+    {"mode 1 drops TU codes", "/.TW,1,2,4,60\r", "3 27 31", ""},
+    {"mode 10 too", "/.TW,10,0\r", "3 27 31", ""},
+};
+
+/* Line codes, and the host bytes. */
+static const struct trace line_lines[] = {
+    {"27 23 31 23 give 1Q", MODE_1, "27 23 31 23", "1Q"},
+    {"74 on", MODE_1 ON("74"), "27 23 31 23", "\0161\017Q"},
+    {"space and CR do not unshift", MODE_1 ON("70") ON("71"), "27 23 4 23 8 23", "1 1\r1"},
+    {"a connection puts the case back", MODE_1, "23", "Q"},
+    {"mode 11 drops", "", "27 23 31 23", ""},
+    {"mode 4 gives the host nothing", MODE_4, "27 23 31 23", ""},
+};
+
+/* A command, and what it answers between CR LF and CR LF (nothing: silent). */
+static const struct trace commands[] = {
+    /* the requirements' traced lines */
+    {"checksum", "", "/.TW,4,2,1,75,82", "-.TC,4,2,1,75"},
+    {"wrong checksum", "", "/.TW,4,2,1,75,83", "-.TC,255,2,4,4"},
+    {"50 below", "", "/.TW,50,1,9", "-.TC,255,2,50,5"},
+    {"50 least", "", "/.TW,50,1,10", "-.TC,50,1,10"},
+    {"50 most", "", "/.TW,50,1,80", "-.TC,50,1,80"},
+    {"50 above", "", "/.TW,50,1,81", "-.TC,255,2,50,5"},
+    {"reduced to a byte", "", "/.TW,49,1,257", "-.TC,49,1,1"},
+    {"one field", "", "/.TW,49", ""},
+    {"neither TW nor TR", "", "/.AB,1,0", "-.TC,255,2,1,1"},
+    /* the firmware paper's commands */
+    {"000 page 9", "", "/.TW,1,2,4,66", "-.TC,1,2,4,66"},
+    {"000 checksum, none", "", "/.TW,4,2,1,75", "-.TC,4,2,1,75"},
+    {"000 mode 3 is not built", "", "/.TW,3,3,4,248,8", "-.TC,255,2,3,2"},
+    {"000 mode 3, total checksum", "", "/.TW,3,3,4,248,8,265", "-.TC,255,2,3,2"},
+    {"000 mode 3, truncated checksum", "", "/.TW,3,3,4,248,8,10", "-.TC,255,2,3,2"},
+    {"000 current connection", "/.TW,1,2,1,60\r", "/.TR,1,0", "-.TC,1,2,1,60"},
+    {"000 current connection, mode 4", "/.TW,4,2,3,100\r", "/.TR,1,0", "-.TC,4,2,3,100"},
+    {"000 current connection, mode 10", "/.TW,10,0\r", "/.TR,1,0", "-.TC,10,0"},
+    {"000 current connection, mode 11", "", "/.TR,1,0", "-.TC,11,0"},
+    {"000 HV2 at 100", "", "/.TW,1,2,2,100", "-.TC,1,2,2,100"},
+    {"000 mode 2 is not built", "", "/.TW,2,1,3", "-.TC,255,2,2,2"},
+    {"000 TU to HV2 at 75", "", "/.TW,4,2,2,75", "-.TC,4,2,2,75"},
+    {"000 mode 5 is not built", "", "/.TW,5,2,60,1", "-.TC,255,2,5,2"},
+    {"000 mode 6 is not built", "", "/.TW,6,4,4,75,1,60", "-.TC,255,2,6,2"},
+    {"000 mode 10", "", "/.TW,10,0", "-.TC,10,0"},
+    {"000 mode 11", "", "/.TW,11,0", "-.TC,11,0"},
+    {"000 motor is not built", "", "/.TW,20,1,1", "-.TC,255,2,20,2"},
+    {"000 motor off is not built", "", "/.TW,20,3,0", "-.TC,255,2,20,2"},
+    {"000 40 is not built", "", "/.TW,40,1,1", "-.TC,255,2,40,2"},
+    {"000 41 is not built", "", "/.TW,41,1,0", "-.TC,255,2,41,2"},
+    {"000 49", "", "/.TW,49,1,1", "-.TC,49,1,1"},
+    {"000 49 read", ON("49"), "/.TR,49,0", "-.TC,49,1,1"},
+    {"000 50 read, factory", "", "/.TR,50,0", "-.TC,50,1,72"},
+    {"000 52 is not built", "", "/.TR,52,0", "-.TC,255,2,52,2"},
+    {"000 53 is not built", "", "/.TR,53,0", "-.TC,255,2,53,2"},
+    {"000 70", "", "/.TW,70,1,1", "-.TC,70,1,1"},
+    {"000 70 read", "", "/.TR,70,0", "-.TC,70,1,0"},
+    {"000 71", "", "/.TW,71,1,1", "-.TC,71,1,1"},
+    {"000 71 read", ON("71"), "/.TR,71,0", "-.TC,71,1,1"},
+    {"000 72", "", "/.TW,72,1,0", "-.TC,72,1,0"},
+    {"000 72 read", ON("72"), "/.TR,72,0", "-.TC,72,1,1"},
+    {"000 73 is not built", "", "/.TW,73,1,1", "-.TC,255,2,73,2"},
+    {"000 74", "", "/.TW,74,1,1", "-.TC,74,1,1"},
+    {"000 74 read", ON("74"), "/.TR,74,0", "-.TC,74,1,1"},
+    {"000 75 is not built", "", "/.TR,75,0", "-.TC,255,2,75,2"},
+    {"000 90", "", "/.TW,90,8,8,8,2,31,31,0,0,0", "-.TC,90,8,8,8,2,31,31,0,0,0"},
+    {"000 90 read, factory", "", "/.TR,90,0", "-.TC,90,8,8,8,2,31,31,0,0,0"},
+    {"000 note 20, a string with no CR", "", "/.TW,90,8,31,16,16,21,27,23,0,0", "-.TC,255,2,90,5"},
+    {"000 91 is not built", "", "/.TR,91,0", "-.TC,255,2,91,2"},
+    {"000 92 is not built", "", "/.TW,92,8,2,12,12,12,12,0,0,0", "-.TC,255,2,92,2"},
+    {"000 93 is not built", "", "/.TR,93,0", "-.TC,255,2,93,2"},
+    {"000 94 is not built", "", "/.TR,94,0", "-.TC,255,2,94,2"},
+    {"000 95 is not built", "", "/.TR,95,0", "-.TC,255,2,95,2"},
+    {"000 250", "", "/.TW,250,0", "-.TC,250,0"},
+    {"000 250 puts 50 back", "/.TW,50,1,20\r/.TW,250,0\r", "/.TR,50,0", "-.TC,50,1,72"},
+    {"000 appendix 8, version", "", "/.TR,0,0", "-.TC,0,4,0,0,1,0"},
+    {"000 leading zeros", "", "/.TW,049,001,0001", "-.TC,49,1,1"},
+    {"000 small letters", "", "/.tw,70,1,1", "-.TC,70,1,1"},
+    {"000 small letters, read", "", "/.tr,70,0", "-.TC,70,1,0"},
+    {"000 mixed letters", "", "/.Tw,70,1,1", ""},
+    {"000 mixed letters, small first", "", "/.tR,70,0", ""},
+    {"000 a null parameter is 0", "", "/.TW,70,1,", "-.TC,70,1,0"},
+    {"000 X is 255", "", "/.TR,X,0", "-.TC,255,2,255,2"},
+    {"000 a space is no digit", "", "/.TW,70,1, 1", ""},
+    {"000 another delimiter", "", "/.TW,70;1,1", ""},
+    {"000 truncated by /", "", "/.TW,70/.TW,71,1,1", "-.TC,71,1,1"},
+    {"000 total checksum over 255", "", "/.TW,90,8,8,8,2,31,31,31,31,31,271", "-.TC,90,8,8,8,2,31,31,31,31,31"},
+    {"000 the same truncated", "", "/.TW,90,8,8,8,2,31,31,31,31,31,15", "-.TC,90,8,8,8,2,31,31,31,31,31"},
+    /* readings */
+    {"small x", "", "/.TR,x,0", ""},
+    {"X and a digit", "", "/.TR,X1,0", ""},
+    {"a digit and X", "", "/.TR,1X,0", ""},
+    {"XX", "", "/.TR,XX,0", ""},
+    {"small other type", "", "/.ab,1,0", "-.TC,255,2,1,1"},
+    {"mixed other type", "", "/.Ab,1,0", ""},
+    {"type with a digit", "", "/.T1,1,0", ""},
+    {"type of one letter", "", "/.T,1,0", ""},
+    {"type of three letters", "", "/.TWW,10,0", ""},
+    {"two fields by a comma", "", "/.TW,10,", "-.TC,10,0"},
+    {"a third by a comma is a checksum", "", "/.TW,10,0,", "-.TC,255,2,10,4"},
+    {"one empty field", "", "/.TW,", ""},
+    {"no field", "", "/.TW", ""},
+    {"id and number reduced", "", "/.TW,305,257,1", "-.TC,49,1,1"},
+    {"read with a checksum", "", "/.TR,49,0,49", "-.TC,49,1,0"},
+    {"read with a wrong checksum", "", "/.TR,49,0,48", "-.TC,255,2,49,4"},
+    {"checksum modulo 256 of a reduced field", "", "/.TW,305,257,1,51", "-.TC,49,1,1"},
+    {"reading 4", "", "/.TR,4,0", "-.TC,255,2,4,2"},
+    {"reading 10", "", "/.TR,10,0", "-.TC,255,2,10,2"},
+    {"reading 11", "", "/.TR,11,0", "-.TC,255,2,11,2"},
+    {"reading 250", "", "/.TR,250,0", "-.TC,255,2,250,2"},
+    {"writing 0", "", "/.TW,0,0", "-.TC,255,2,0,2"},
+    {"error 1 before 2", "", "/.TX,99,0", "-.TC,255,2,99,1"},
+    {"error 2 before 3", "", "/.TW,99,5,1", "-.TC,255,2,99,2"},
+    {"error 3 before 4", "", "/.TW,49,2,5,0", "-.TC,255,2,49,3"},
+    {"error 3, parameters missing", "", "/.TW,49,1", "-.TC,255,2,49,3"},
+    {"error 3, two too many", "", "/.TW,49,1,1,51,1", "-.TC,255,2,49,3"},
+    {"error 3, a read with a number", "", "/.TR,49,1", "-.TC,255,2,49,3"},
+    {"error 4 before 5", "", "/.TW,50,1,9,1", "-.TC,255,2,50,4"},
+    {"error 5 with a right checksum", "", "/.TW,50,1,9,60", "-.TC,255,2,50,5"},
+    {"eleven fields", "", "/.TW,90,8,8,0,0,0,0,0,0,0,106", "-.TC,90,8,8,0,0,0,0,0,0,0"},
+    {"twelve fields", "", "/.TW,90,8,8,0,0,0,0,0,0,0,106,0", "-.TC,255,2,90,3"},
+    {"thirteen fields", "", "/.TW,90,8,8,0,0,0,0,0,0,0,106,0,0", "-.TC,255,2,90,3"},
+    {"too many fields, type first", "", "/.AB,90,8,8,0,0,0,0,0,0,0,106,0,0", "-.TC,255,2,90,1"},
+    {"too many fields, then a bad byte", "", "/.TW,90,8,8,0,0,0,0,0,0,0,106,0,0,x", ""},
+    {"a bad form in the twelfth field", "", "/.TW,90,8,8,0,0,0,0,0,0,0,106,1X", ""},
+    {"port 0", "", "/.TW,1,2,0,60", "-.TC,255,2,1,5"},
+    {"port 5", "", "/.TW,1,2,5,60", "-.TC,255,2,1,5"},
+    {"port 4 in mode 4", "", "/.TW,4,2,4,60", "-.TC,255,2,4,5"},
+    {"speed 67", "", "/.TW,1,2,1,67", "-.TC,255,2,1,5"},
+    {"speed 66", "", "/.TW,1,2,1,66", "-.TC,1,2,1,66"},
+    {"an option 2", "", "/.TW,72,1,2", "-.TC,255,2,72,5"},
+    {"90, code over 31", "", "/.TW,90,8,8,32,0,0,0,0,0,0", "-.TC,255,2,90,5"},
+    {"90, a code after a 0", "", "/.TW,90,8,8,0,8,0,0,0,0,0", "-.TC,255,2,90,5"},
+    {"90, empty", "", "/.TW,90,8,0,0,0,0,0,0,0,0", "-.TC,255,2,90,5"},
+    {"90, a letter before the 8", "", "/.TW,90,8,3,8,0,0,0,0,0,0", "-.TC,255,2,90,5"},
+    {"90, LF and shifts before the 8", "", "/.TW,90,8,2,27,31,8,3,4,5,6", "-.TC,90,8,2,27,31,8,3,4,5,6"},
+    {"an error changes nothing", "/.TW,50,1,33\r/.TW,50,1,81\r", "/.TR,50,0", "-.TC,50,1,33"},
+    {"250 leaves the connection", "/.TW,4,2,2,66\r/.TW,250,0\r", "/.TR,1,0", "-.TC,4,2,2,66"},
+    {"250 puts 90 back", STRING("8,2,0,0,0,0,0,0") "/.TW,250,0\r", "/.TR,90,0", "-.TC,90,8,8,8,2,31,31,0,0,0"},
+};
+
+/* "ASCII-67 to Baudot-USTTY": row i is for bytes i, 32 + i, 64 + i and 96 + i; L and F after a shift, N without. */
+static const char *const ascii_table[32] = {
+    "N0 N4 -- --", "-- F13 L3 L3", "-- F17 L25 L25", "-- F20 L14 L14", "-- F9 L9 L9", "-- -- L1 L1",
+    "-- F26 L13 L13", "F5 F11 L26 L26", "-- F15 L20 L20", "-- F18 L6 L6", "N2 -- L11 L11", "-- -- L15 L15",
+    "-- F12 L18 L18", "N8 F3 L28 L28", "N27 F28 L12 L12", "N31 F29 L24 L24", "-- F22 L22 L22", "-- F23 L23 L23",
+    "-- F19 L10 L10", "-- F1 L5 L5", "-- F10 L16 L16", "-- F16 L7 L7", "-- F21 L30 L30", "-- F7 L19 L19",
+    "-- F6 L29 L29", "-- F24 L21 L21", "-- F14 L17 L17", "-- F30 -- --", "-- -- -- --", "-- -- -- --",
+    "-- -- -- --", "-- F25 -- --"};
+
+/* "Baudot-USTTY to ASCII-67": the column LTRS, then the column FIGS. */
+static const uint8_t baudot_table[2][32] = {
+    {0x00, 0x45, 0x0A, 0x41, 0x20, 0x53, 0x49, 0x55, 0x0D, 0x44, 0x52, 0x4A, 0x4E, 0x46, 0x43, 0x4B,
+     0x54, 0x5A, 0x4C, 0x57, 0x48, 0x59, 0x50, 0x51, 0x4F, 0x42, 0x47, 0x0E, 0x4D, 0x58, 0x56, 0x0F},
+    {0x00, 0x33, 0x0A, 0x2D, 0x20, 0x07, 0x38, 0x37, 0x0D, 0x24, 0x34, 0x27, 0x2C, 0x21, 0x3A, 0x28,
+     0x35, 0x22, 0x29, 0x32, 0x23, 0x36, 0x30, 0x31, 0x39, 0x3F, 0x26, 0x0E, 0x2E, 0x2F, 0x3B, 0x0F}};
+
+/* Bytes, and the message found in them (nothing: none). */
+static const struct trace finds[] = {
+    {"one message", "", "\r\n-.TC,1,2,1,60\r\n", "-.TC,1,2,1,60"},
+    {"no parameters", "", "\r\n-.TC,10,0\r\n", "-.TC,10,0"},
+    {"the first of two", "", "\r\n-.TC,10,0\r\n\r\n-.TC,11,0\r\n", "-.TC,10,0"},
+    {"the CR LF of a broken one opens the next", "", "\r\n-.TC,10,1\r\n-.TC,11,0\r\n", "-.TC,11,0"},
+    {"after text", "", "RYRY\r\r\n-.TC,250,0\r\nRY", "-.TC,250,0"},
+    {"no CR before", "", "\n-.TC,10,0\r\n", ""},
+    {"no LF before", "", "\r-.TC,10,0\r\n", ""},
+    {"no LF after", "", "\r\n-.TC,10,0\r", ""},
+    {"no CR after", "", "\r\n-.TC,10,0\n", ""},
+    {"one number", "", "\r\n-.TC,10\r\n", ""},
+    {"too few", "", "\r\n-.TC,10,2,1\r\n", ""},
+    {"too many", "", "\r\n-.TC,10,1,1,1\r\n", ""},
+    {"a leading zero", "", "\r\n-.TC,10,1,01\r\n", ""},
+    {"zero", "", "\r\n-.TC,0,1,0\r\n", "-.TC,0,1,0"},
+    {"255", "", "\r\n-.TC,255,1,255\r\n", "-.TC,255,1,255"},
+    {"256", "", "\r\n-.TC,255,1,256\r\n", ""},
+    {"four digits", "", "\r\n-.TC,255,1,1000\r\n", ""},
+    {"an empty number", "", "\r\n-.TC,255,1,\r\n", ""},
+    {"small letters", "", "\r\n-.tc,10,0\r\n", ""},
+    {"a command", "", "\r\n/.TW,10,0\r\n", ""},
+    {"a byte after the numbers", "", "\r\n-.TC,10,0 \r\n", ""},
+    {"nothing", "", "", ""},
+};
+
+/* ---- Running them ---- */
+
+static void run_host_line(const struct trace *t) {
+  start(t->setup);
+  host(t->input);
+  const char *got = decimals(first, done[1]);
+  check(strcmp(got, t->expected) == 0, t->name, t->expected, got);
+}
+
+static void run_tu_line(const struct trace *t) {
+  uint8_t codes[ROOM];
+  size_t n = parse(t->input, codes);
+  start(t->setup);
+  uint32_t answer = linebox_tu(state, codes, n, first, ROOM, done);
+  const char *got = decimals(first, done[1]);
+  check(answer == 0 && done[0] == n && strcmp(got, t->expected) == 0, t->name, t->expected, got);
+}
+
+static void run_line_line(const struct trace *t) {
+  uint8_t codes[ROOM];
+  size_t n = parse(t->input, codes);
+  start(t->setup);
+  uint32_t answer = linebox_line(state, codes, n, first, ROOM, second, ROOM, done);
+  int same = done[1] == strlen(t->expected) && memcmp(first, t->expected, done[1]) == 0;
+  check(answer == 0 && done[0] == n && same, t->name, t->expected, shown(first, done[1]));
+}
+
+static void run_command(const struct trace *t) {
+  char expected[ROOM];
+  size_t n = strlen(t->expected);
+  memcpy(expected, "\r\n", 2);
+  memcpy(expected + 2, t->expected, n);
+  memcpy(expected + 2 + n, "\r\n", 2);
+  n = n == 0 ? 0 : n + 4;
+  start(t->setup);
+  host(t->input);
+  uint64_t early = done[2];
+  host("\r");
+  check(early == 0 && done[2] == n && memcmp(second, expected, n) == 0, t->name, t->expected, shown(second, done[2]));
+}
+
+static void run_find(const struct trace *t) {
+  const uint8_t *bytes = (const uint8_t *)t->input;
+  size_t n = strlen(t->expected);
+  uint64_t at[2] = {99, 99};
+  uint32_t answer = linebox_find(bytes, strlen(t->input), at);
+  int good = n == 0 ? answer == 0 && at[0] == 0 && at[1] == 0
+                    : answer == 1 && at[1] == n && memcmp(bytes + at[0], t->expected, n) == 0;
+  check(good, t->name, t->expected, answer ? shown(bytes + at[0], at[1]) : "none");
+}
+
+/* Each ASCII value as the first text after connecting, with a byte after it that has no code, so that `/` is released. */
+static void run_ascii_table(void) {
+  unsigned with_code = 0;
+  for (int byte = 0; byte < 256; byte++) {
+    uint8_t in[2] = {(uint8_t)byte, 1};
+    char name[] = "ASCII value ...", expected[8] = "";
+    const char *entry = byte < 128 ? ascii_table[byte % 32] : "--";
+    for (int column = 0; byte < 128 && column < byte / 32; entry++) column += *entry == ' ';
+    name[12] = (char)('0' + byte / 100), name[13] = (char)('0' + byte / 10 % 10), name[14] = (char)('0' + byte % 10);
+    if (*entry != '-') {
+      uint8_t codes[2] = {*entry == 'F' ? 27 : 31, (uint8_t)strtoul(entry + 1, NULL, 10)};
+      const char *text = *entry == 'N' ? decimals(codes + 1, 1) : decimals(codes, 2);
+      memcpy(expected, text, strlen(text) + 1);
+      with_code++;
+    }
+    start(MODE_1);
+    if (byte == 10) host(" "); /* the LF of a command's CR LF is no text */
+    linebox_host(state, in, 2, first, ROOM, second, ROOM, done);
+    const char *got = decimals(first, done[1]);
+    check(done[0] == 2 && strcmp(got, expected) == 0, name, expected, got);
+  }
+  check(with_code == 84, "ASCII values with a code", "84", "another count");
+}
+
+static void run_baudot_table(void) {
+  for (int figures = 0; figures < 2; figures++) {
+    for (uint8_t code = 0; code < 32; code++) {
+      uint8_t in[2] = {figures ? 27 : 31, code};
+      start(MODE_1 ON("74"));
+      linebox_line(state, in, 2, first, ROOM, second, ROOM, done);
+      int good = done[1] == 2 && first[0] == (figures ? 14 : 15) && first[1] == baudot_table[figures][code];
+      check(good, figures ? "Baudot table, figures" : "Baudot table, letters", "the paper's byte", shown(first, done[1]));
+    }
+  }
+}
+
+/* How a call ends: the four answers, what was taken and written, and that nothing else is touched. */
+static void run_answers(void) {
+  start(MODE_1);
+  uint32_t answer = linebox_host(state, (const uint8_t *)"A1", 2, first, 3, second, 0, done);
+  check(answer == 1 && done[0] == 1 && done[1] == 2 && done[2] == 0, "room for A, not for 1", "1: 1 2 0", "another");
+  answer = linebox_host(state, (const uint8_t *)"1", 1, first, 2, second, 0, done);
+  check(answer == 0 && done[0] == 1 && done[1] == 2, "the byte not taken goes on", "0: 1 2 0", "another");
+  answer = linebox_host(state, (const uint8_t *)"%/.TR,0,0", 9, NULL, 0, NULL, 0, done);
+  check(answer == 0 && done[0] == 9, "no output needs no room", "0: 9 0 0", "another");
+  answer = linebox_host(state, (const uint8_t *)"\r", 1, NULL, 0, second, 19, done);
+  check(answer == 1 && done[0] == 0 && done[2] == 0, "a message of 20 bytes in 19", "1: 0 0 0", "another");
+  answer = linebox_host(state, (const uint8_t *)"\r", 1, NULL, 0, second, 20, done);
+  check(answer == 0 && done[0] == 1 && done[2] == 20, "and in 20", "0: 1 0 20", "another");
+  answer = linebox_host(state, NULL, 0, NULL, 0, NULL, 0, done);
+  check(answer == 0 && done[0] == 0, "an empty call", "0: 0 0 0", "another");
+  answer = linebox_line(state, (const uint8_t[]){1, 32}, 2, first, 1, NULL, 0, done);
+  check(answer == 2 && done[0] == 1 && done[1] == 1 && done[2] == 0, "a line code of 32, no room", "2: 1 1 0", "another");
+  answer = linebox_line(state, (const uint8_t[]){1, 2, 32}, 3, first, 1, NULL, 0, done);
+  check(answer == 1 && done[0] == 1 && done[1] == 1, "no room before a 32", "1: 1 1 0", "another");
+  answer = linebox_tu(state, (const uint8_t[]){1, 255}, 2, NULL, 0, done);
+  check(answer == 2 && done[0] == 1 && done[1] == 0, "a TU code of 255 in mode 1", "2: 1 0", "another");
+  state[127] = 1;
+  done[0] = done[1] = done[2] = 7;
+  answer = linebox_host(state, (const uint8_t *)"A", 1, first, ROOM, second, ROOM, done);
+  check(answer == 3 && done[0] == 0 && done[1] == 0 && done[2] == 0 && state[127] == 1, "a spare byte of 1", "3: 0 0 0",
+        "another");
+  answer = linebox_tu(state, (const uint8_t[]){255}, 1, NULL, 0, done);
+  check(answer == 3 && done[0] == 0 && done[1] == 0, "3 comes before 2", "3: 0 0", "another");
+}
+
+/* A fresh box byte by byte, and line codes to the TU in mode 4. */
+static void run_fresh(void) {
+  static const uint8_t expected[LINEBOX_STATE] = {[1] = 72, [6] = 8, 8, 2, 31, 31, [14] = 11, [21] = 1, 1};
+  memset(state, 255, LINEBOX_STATE);
+  uint32_t answer = linebox_fresh(state);
+  check(answer == 0 && memcmp(state, expected, LINEBOX_STATE) == 0, "a fresh box", "by the published offsets",
+        decimals(state, LINEBOX_STATE));
+  start(MODE_4);
+  answer = linebox_line(state, (const uint8_t[]){27, 23, 31, 0}, 4, first, ROOM, second, ROOM, done);
+  check(answer == 0 && done[0] == 4 && done[1] == 0 && strcmp(decimals(second, done[2]), "27 23 31 0") == 0,
+        "line codes to the TU in mode 4", "27 23 31 0", decimals(second, done[2]));
+}
+
+#define EACH(table, run)                                                                                               \
+  for (size_t i = 0; i < sizeof table / sizeof *table; i++) run(&table[i])
+
+int main(void) {
+  EACH(host_lines, run_host_line);
+  EACH(tu_lines, run_tu_line);
+  EACH(line_lines, run_line_line);
+  EACH(commands, run_command);
+  EACH(finds, run_find);
+  run_ascii_table();
+  run_baudot_table();
+  run_answers();
+  run_fresh();
+  printf("lines: %u passed, %u failed\n", passed, failed);
+  return failed != 0;
+}

@@ -1,0 +1,6 @@
+#ifndef STDDEF_H
+#define STDDEF_H
+typedef __SIZE_TYPE__ size_t;
+#define NULL ((void *)0)
+#define offsetof(type, field) __builtin_offsetof(type, field)
+#endif
