@@ -1,9 +1,9 @@
 -- The example meets every premise: obedience is tested code by code, and the test computes.
 -- Assumes nothing.
 use Prim.Native.Nat.{ℕ}
-use mathlib.Core.Path.{_≡_, refl, sym, ap, _∙_}
+use mathlib.Core.Path.{_≡_, refl}
 use mathlib.Core.Bool.{Bool, true, false, cond, _&&_, false≢true}
-use mathlib.Core.List.{List, [], _∷_, _++_}
+use mathlib.Core.List.{List, [], _∷_}
 use Rattle.laws.proofs.Both.{both}
 use Rattle.code.specs.Rows.{rowAt}
 use Rattle.code.specs.Kinds.{kindOf}
@@ -15,7 +15,7 @@ use Rattle.printer.specs.Printer.{hear, hears}
 use Rattle.agree.specs.Agrees.{ObeysAt, Obeys}
 use Rattle.linebox.specs.State.{freshBox}
 use Rattle.linebox.specs.Step.{step}
-use Rattle.demands.specs.Names.{Letters, Kind, Still, Space, Return, Shift, Char, Settings, Printer, State}
+use Rattle.demands.specs.Names.{Kind, Still, Space, Return, Shift, Char, Settings, Printer, State}
 use Rattle.demands.specs.Box.{ours}
 use Rattle.demands.specs.Lent.{tookAll, sentAll}
 use Rattle.demands.specs.Story.{connects, Turn, eventsOf, Scene, start, does, turned, Obedient, Printed}

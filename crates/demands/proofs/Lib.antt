@@ -8,6 +8,7 @@ pub mod Lent
 pub mod OnRecord
 pub mod Landing
 pub mod Story
+pub mod Apart
 pub mod WrongBoxes
 pub mod Forgetful
 pub mod Traces

@@ -4,11 +4,7 @@ use Prim.Native.Nat.{ℕ}
 use mathlib.Core.Path.{_≡_, refl, sym, ap, _∙_}
 use mathlib.Core.Bool.{Bool, true, false, cond, _||_, false≢true}
 use mathlib.Core.List.{List, [], _∷_, _++_}
-use Rattle.settings.specs.declared.Settings.{Settings}
-use Rattle.printer.specs.declared.Printer.{Printer}
 use Rattle.printer.specs.Printer.{hears, sheet}
-use Rattle.sender.specs.declared.Sender.{Sender}
-use Rattle.sender.specs.declared.Wanted.{Wanted}
 use Rattle.sender.specs.Item.{items, afterItems, fresh}
 use Rattle.agree.specs.Agrees.{Agrees, Obeys}
 use Rattle.agree.specs.Asked.{printedAll}
@@ -17,15 +13,15 @@ use Rattle.agree.proofs.Agreement.{agreement, unknown-agrees}
 use Rattle.agree.proofs.Folds.{items-noted}
 use Rattle.agree.proofs.Prints.{items-print}
 use Rattle.agree.proofs.Told.{column-told}
-use Rattle.linebox.specs.declared.State.{State}
 use Rattle.linebox.specs.State.{sound, freshBox}
-use Rattle.linebox.specs.Step.{step, Event, run}
+use Rattle.linebox.specs.Step.{Event, run}
 use Rattle.linebox.specs.Ends.{events}
 use Rattle.linebox.proofs.Stays.{sound-parts, sound-step, fresh-sound}
-use Rattle.demands.specs.Box.{Result, Box, ours}
+use Rattle.demands.specs.Names.{Settings, Wanted, Sender, Printer, State}
+use Rattle.demands.specs.Box.{Box, ours}
 use Rattle.demands.specs.EveryCall.{EveryCall}
 use Rattle.demands.specs.Lent.{lines, Lent, result, tookAll}
-use Rattle.demands.specs.Asks.{asks, asksAll}
+use Rattle.demands.specs.Asks.{asksAll}
 use Rattle.demands.specs.Story.{connects, Turn, eventsOf, Scene, start, does, turned, after, lineOf, sheetOf, Obedient, charactersOf, itemsOf, Within, Keeps, Holds, Off, left, Printing}
 use Rattle.demands.proofs.Sessions.{run-append}
 use Rattle.demands.proofs.OurBox.{ours-every-call}

@@ -4,27 +4,18 @@ use mathlib.Core.Path.{_≡_}
 use mathlib.Core.Bool.{Bool, true, false, cond, _||_}
 use mathlib.Core.List.{List, [], _∷_, _++_}
 use Rattle.code.specs.Kinds.{kindOf}
-use Rattle.command.specs.declared.Out.{Out}
-use Rattle.command.specs.declared.Out.the-variants.{Nothing, One, Two, Finished}
 use Rattle.command.specs.Read.{read, textOf}
-use Rattle.settings.specs.declared.Connection.{Connection}
-use Rattle.settings.specs.declared.Connection.the-variants.{Mode1, Mode4, Mode10, Mode11}
 use Rattle.settings.specs.Command.{commanded}
-use Rattle.printer.specs.declared.Printer.{Printer}
-use Rattle.printer.specs.declared.Mark.{Mark}
 use Rattle.printer.specs.Printer.{hear, hears, prints, sheet}
-use Rattle.sender.specs.declared.Wanted.{Wanted}
 use Rattle.sender.specs.Item.{wanted}
 use Rattle.agree.specs.Agrees.{Agrees, Obeys}
 use Rattle.agree.specs.Asked.{printedAll}
 use Rattle.agree.specs.Margin.{Below}
 use Rattle.agree.specs.Sure.{isReturn, holds}
-use Rattle.linebox.specs.declared.State.{State}
-use Rattle.linebox.specs.declared.Stream.{Stream}
-use Rattle.linebox.specs.declared.Stream.the-variants.{Host, Line, Tu}
 use Rattle.linebox.specs.State.{freshBox}
 use Rattle.linebox.specs.Step.{Step, text, step, Event}
-use Rattle.demands.specs.Box.{Result, Box}
+use Rattle.demands.specs.Names.{Out, Nothing, One, Two, Finished, Connection, Mode1, Mode4, Mode10, Mode11, Wanted, Printer, Mark, State, Stream, Host, Line, Tu}
+use Rattle.demands.specs.Box.{Box}
 use Rattle.demands.specs.Lent.{Lent, result, tookAll, sentAll}
 use Rattle.demands.specs.Asks.{codeIn, asks, asksAll}
 
