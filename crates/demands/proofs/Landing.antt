@@ -22,7 +22,7 @@ use Rattle.agree.proofs.Told.{column-told}
 use Rattle.agree.proofs.Margin.{item-below}
 use Rattle.demands.specs.Names.{Case, Kind, Still, Space, Return, Shift, Char, Settings, Known, Column, Record, Wanted, Sender, Printer, Mark}
 use Rattle.demands.specs.Names.column
-use Rattle.demands.specs.Story.{Within}
+use Rattle.demands.specs.Printing.{Within}
 
 below-split : (limit : ℕ) (xs ys : List Mark) → Below limit (xs ++ ys) → Below limit xs × Below limit ys
 below-split limit [] ys h = (tt, h)

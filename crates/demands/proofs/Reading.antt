@@ -22,7 +22,8 @@ use Rattle.linebox.specs.Step.{asked, text, Event}
 use Rattle.demands.specs.Names.{Case, Letters, Figures, Kind, Still, Space, Return, Shift, Char, Conversion, Settings, Connection, Mode1, Mode4, Mode10, Mode11, Column, Record, Wanted, Sender, Printer, Mark, State, Stream, Host, Line, Tu}
 use Rattle.demands.specs.Names.column
 use Rattle.demands.specs.Asks.{textByte, textBytes, hostAsks, isShift, codeIn, tuAsks, asksBy, asks}
-use Rattle.demands.specs.Story.{charactersOf, carriedTo, itemsBy, itemsOf, reads}
+use Rattle.demands.specs.Story.{charactersOf, carriedTo, itemsBy, itemsOf}
+use Rattle.demands.specs.Printing.{reads}
 
 -- Nothing from 128 on has a code.
 
