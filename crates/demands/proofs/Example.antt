@@ -1,9 +1,9 @@
 -- The example meets every premise: obedience is tested code by code, and the test computes.
 -- Assumes nothing.
 use Prim.Native.Nat.{ℕ}
-use mathlib.Core.Path.{_≡_, refl, sym, ap, _∙_}
+use mathlib.Core.Path.{_≡_, refl}
 use mathlib.Core.Bool.{Bool, true, false, cond, _&&_, false≢true}
-use mathlib.Core.List.{List, [], _∷_, _++_}
+use mathlib.Core.List.{List, [], _∷_}
 use Rattle.laws.proofs.Both.{both}
 use Rattle.code.specs.Rows.{rowAt}
 use Rattle.code.specs.Kinds.{kindOf}
@@ -15,12 +15,13 @@ use Rattle.printer.specs.Printer.{hear, hears}
 use Rattle.agree.specs.Agrees.{ObeysAt, Obeys}
 use Rattle.linebox.specs.State.{freshBox}
 use Rattle.linebox.specs.Step.{step}
-use Rattle.demands.specs.Names.{Letters, Kind, Still, Space, Return, Shift, Char, Settings, Printer, State}
+use Rattle.demands.specs.Names.{Kind, Still, Space, Return, Shift, Char, Settings, Printer, State}
 use Rattle.demands.specs.Box.{ours}
 use Rattle.demands.specs.Lent.{tookAll, sentAll}
-use Rattle.demands.specs.Story.{connects, Turn, eventsOf, Scene, start, does, turned, Obedient, Printed}
-use Rattle.demands.specs.Example.{calls, first, turns, codes}
-use Rattle.demands.proofs.Story.{ours-prints}
+use Rattle.demands.specs.Story.{connects, Turn, turns, Scene, start, does, turned, Obedient}
+use Rattle.demands.specs.Printing.{Printed}
+use Rattle.demands.specs.Example.{calls, bytes, first, joining, codes}
+use Rattle.demands.proofs.Printing.{ours-prints}
 
 -- Obedience as a test.
 
@@ -73,19 +74,19 @@ pub example-codes : sentAll ours freshBox calls ≡ codes
 unfolding conversion kindOf rowAt digits soundString idOf commanded
 example-codes = refl
 
--- the turns are the bytes that its calls took
-pub example-taken : eventsOf turns ≡ tookAll ours freshBox calls
+-- the bytes that its calls take
+pub example-bytes : tookAll ours freshBox calls ≡ bytes
 unfolding conversion kindOf rowAt digits soundString idOf commanded
-example-taken = refl
+example-bytes = refl
 
 -- its printers are obedient
-example-test : obeyAll freshBox first turns ≡ true
+example-test : obeyAll freshBox first (turns joining 0 bytes) ≡ true
 unfolding conversion kindOf rowAt digits soundString idOf commanded
 example-test = refl
 
-pub example-obedient : Obedient (start first) turns
-example-obedient = obedient (start first) turns example-test
+pub example-obedient : Obedient (start first) (turns joining 0 (tookAll ours freshBox calls))
+example-obedient = rw example-bytes (obedient (start first) (turns joining 0 bytes) example-test)
 
 -- so demand 3 holds of it
-pub example : Printed ours calls first turns
-example = ours-prints calls first turns example-taken example-obedient
+pub example : Printed ours calls first (turns joining 0 (tookAll ours freshBox calls))
+example = ours-prints calls first joining example-obedient

@@ -1,11 +1,8 @@
 -- The box whose record stays unknown fails demand 2, by computing what it sends for one input.
 -- Assumes nothing.
-use Prim.Native.Nat.{ℕ}
-use mathlib.Core.Path.{_≡_, refl}
+use mathlib.Core.Path.{refl}
 use mathlib.Core.List.{[]}
-use mathlib.Core.Bool.{false}
 use borrow.Author.Tests.{eqb-false}
-use lib.Dec.{eqb}
 use Rattle.code.specs.Rows.{rowAt}
 use Rattle.code.specs.Kinds.{kindOf}
 use Rattle.code.specs.Convert.{conversion}

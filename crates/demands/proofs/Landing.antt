@@ -2,29 +2,16 @@
 -- item has no ending, so nothing lands after its return.
 -- Assumes nothing.
 use Prim.Native.Nat.{ℕ}
-use mathlib.Core.Path.{_≡_, refl, sym, ap, _∙_}
-use mathlib.Core.Bool.{Bool, true, false, cond, _&&_, _||_, false≢true, and-false, or-false, or-assoc}
+use mathlib.Core.Path.{_≡_, refl}
+use mathlib.Core.Bool.{Bool, true, false, cond, _||_, false≢true, and-false, or-false, or-assoc}
 use mathlib.Core.List.{List, [], _∷_, _++_, append-nil}
 use lib.ListN.{length}
-use Rattle.code.specs.declared.Case.{Case}
-use Rattle.code.specs.declared.Kind.{Kind}
-use Rattle.code.specs.declared.Kind.the-variants.{Still, Space, Return, Shift, Char}
-use Rattle.code.specs.Kinds.{kindOf, moves, shift, shifts}
+use Rattle.code.specs.Kinds.{kindOf, shifts}
 use Rattle.code.proofs.Laws.{kind-shift}
-use Rattle.settings.specs.declared.Settings.{Settings}
 use Rattle.settings.specs.Table.{soundSettings}
-use Rattle.printer.specs.declared.Printer.{Printer}
-use Rattle.printer.specs.declared.Mark.{Mark}
 use Rattle.printer.specs.Printer.{hear, hears, prints, sheet}
-use Rattle.sender.specs.declared.Known.{Known}
-use Rattle.sender.specs.declared.Column.{Column}
-use Rattle.sender.specs.declared.Column.the-variants as column
-use Rattle.sender.specs.declared.Record.{Record}
-use Rattle.sender.specs.declared.Wanted.{Wanted}
-use Rattle.sender.specs.declared.Sender.{Sender}
-use Rattle.sender.specs.Record.{notes}
 use Rattle.sender.specs.Code.{isCase, unshift, sendKind, sendAs}
-use Rattle.sender.specs.Ending.{due, ending, endingBefore}
+use Rattle.sender.specs.Ending.{endingBefore}
 use Rattle.sender.specs.Item.{character, item, afterItem, items}
 use Rattle.agree.specs.Agrees.{Agrees, Obeys}
 use Rattle.agree.specs.Margin.{Below}
@@ -33,7 +20,9 @@ use Rattle.agree.proofs.Agreement.{agreement}
 use Rattle.agree.proofs.Folds.{sheet-shifts, obeys-append, item-cases}
 use Rattle.agree.proofs.Told.{column-told}
 use Rattle.agree.proofs.Margin.{item-below}
-use Rattle.demands.specs.Story.{Within}
+use Rattle.demands.specs.Names.{Case, Kind, Still, Space, Return, Shift, Char, Settings, Known, Column, Record, Wanted, Sender, Printer, Mark}
+use Rattle.demands.specs.Names.column
+use Rattle.demands.specs.Printing.{Within}
 
 below-split : (limit : ℕ) (xs ys : List Mark) → Below limit (xs ++ ys) → Below limit xs × Below limit ys
 below-split limit [] ys h = (tt, h)

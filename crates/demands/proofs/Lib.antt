@@ -7,7 +7,8 @@ pub mod ReadingBack
 pub mod Lent
 pub mod OnRecord
 pub mod Landing
-pub mod Story
+pub mod Printing
+pub mod Apart
 pub mod WrongBoxes
 pub mod Forgetful
 pub mod Traces

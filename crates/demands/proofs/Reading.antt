@@ -1,6 +1,6 @@
 -- The items of a byte read as what is asked for, and with 49 off that is what they print.
 -- Assumes nothing.
-use Prim.Native.Nat.{ℕ, suc, _≤_, _<_}
+use Prim.Native.Nat.{ℕ, suc, _≤_}
 use mathlib.Core.Path.{_≡_, refl, ap, _∙_}
 use mathlib.Core.Bool.{Bool, true, false, cond, _&&_, and-false}
 use mathlib.Core.List.{List, [], _∷_, _++_, append-assoc, append-nil}
@@ -9,36 +9,21 @@ use borrow.Author.Tests.{ltb-true, ltb-false, lt-leb, eqb-true, ne-eqb}
 use lib.Dec.{T, eqb, ltb}
 use Rattle.laws.proofs.Both.{both}
 use Rattle.laws.proofs.Table.{upto, below}
-use Rattle.code.specs.declared.Case.{Case}
-use Rattle.code.specs.declared.Case.the-variants.{Letters, Figures}
-use Rattle.code.specs.declared.Kind.{Kind}
-use Rattle.code.specs.declared.Kind.the-variants.{Still, Space, Return, Shift, Char}
-use Rattle.code.specs.declared.Conversion.{Conversion}
 use Rattle.code.specs.declared.Conversion.the-variants.{Nothing}
 use Rattle.code.specs.Rows.{letters, figures, rowAt}
-use Rattle.code.specs.Kinds.{kindOf, moves}
-use Rattle.code.specs.Convert.{capital, found, seek, conversion}
+use Rattle.code.specs.Kinds.{kindOf}
+use Rattle.code.specs.Convert.{capital, seek, conversion}
 use Rattle.command.specs.Read.{read, textOf}
-use Rattle.settings.specs.declared.Settings.{Settings}
-use Rattle.settings.specs.declared.Connection.{Connection}
-use Rattle.settings.specs.declared.Connection.the-variants.{Mode1, Mode4, Mode10, Mode11}
-use Rattle.printer.specs.declared.Printer.{Printer}
-use Rattle.printer.specs.declared.Mark.{Mark}
 use Rattle.printer.specs.Printer.{hears, printsAs, sheet}
-use Rattle.sender.specs.declared.Record.{Record}
-use Rattle.sender.specs.declared.Column.{Column}
-use Rattle.sender.specs.declared.Column.the-variants as column
-use Rattle.sender.specs.declared.Wanted.{Wanted}
-use Rattle.sender.specs.declared.Sender.{Sender}
-use Rattle.sender.specs.Ending.{due, ending, endingBefore}
+use Rattle.sender.specs.Ending.{due, endingBefore}
 use Rattle.sender.specs.Item.{item, afterItem, wantedOf}
 use Rattle.agree.specs.Asked.{mark, printed, printedAll}
-use Rattle.linebox.specs.declared.State.{State}
-use Rattle.linebox.specs.declared.Stream.{Stream}
-use Rattle.linebox.specs.declared.Stream.the-variants.{Host, Line, Tu}
 use Rattle.linebox.specs.Step.{asked, text, Event}
+use Rattle.demands.specs.Names.{Case, Letters, Figures, Kind, Still, Space, Return, Shift, Char, Conversion, Settings, Connection, Mode1, Mode4, Mode10, Mode11, Column, Record, Wanted, Sender, Printer, Mark, State, Stream, Host, Line, Tu}
+use Rattle.demands.specs.Names.column
 use Rattle.demands.specs.Asks.{textByte, textBytes, hostAsks, isShift, codeIn, tuAsks, asksBy, asks}
-use Rattle.demands.specs.Story.{charactersOf, carriedTo, itemsBy, itemsOf, reads}
+use Rattle.demands.specs.Story.{charactersOf, carriedTo, itemsBy, itemsOf}
+use Rattle.demands.specs.Printing.{reads}
 
 -- Nothing from 128 on has a code.
 

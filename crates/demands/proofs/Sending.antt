@@ -3,20 +3,12 @@
 use Prim.Native.Nat.{ℕ}
 use mathlib.Core.Path.{_≡_, refl}
 use mathlib.Core.Bool.{cond}
-use mathlib.Core.List.{List, [], _∷_}
-use Rattle.command.specs.declared.Reader.{Reader}
-use Rattle.command.specs.declared.Out.{Out}
-use Rattle.command.specs.declared.Out.the-variants.{Nothing, One, Two, Finished}
+use mathlib.Core.List.{[]}
 use Rattle.command.specs.Read.{read, textOf}
-use Rattle.settings.specs.declared.Connection.{Connection}
-use Rattle.settings.specs.declared.Connection.the-variants.{Mode1, Mode4, Mode10, Mode11}
-use Rattle.sender.specs.declared.Sender.{Sender}
 use Rattle.sender.specs.Item.{items, afterItems, fresh}
-use Rattle.linebox.specs.declared.State.{State}
-use Rattle.linebox.specs.declared.Stream.{Stream}
-use Rattle.linebox.specs.declared.Stream.the-variants.{Host, Line, Tu}
 use Rattle.linebox.specs.State.{withReader}
 use Rattle.linebox.specs.Step.{text, hosted, lined, tued, step, Event}
+use Rattle.demands.specs.Names.{Reader, Out, Nothing, One, Two, Finished, Connection, Mode1, Mode4, Mode10, Mode11, Sender, State, Stream, Host, Line, Tu}
 use Rattle.demands.specs.Story.{connecting, connectsBy, connects, carriedTo, itemsBy, itemsOf}
 use Rattle.demands.proofs.Sessions.{lined-none}
 

@@ -3,12 +3,9 @@
 use Prim.Native.Nat.{ℕ}
 use mathlib.Core.Path.{_≡_, refl, sym, ap, _∙_}
 use mathlib.Core.List.{List, [], _∷_, _++_, append-assoc}
-use Rattle.settings.specs.declared.Connection.{Connection}
-use Rattle.settings.specs.declared.Connection.the-variants.{Mode1, Mode4, Mode10, Mode11}
-use Rattle.linebox.specs.declared.State.{State}
-use Rattle.linebox.specs.declared.Stream.the-variants.{Line}
 use Rattle.linebox.specs.Step.{lined, step, Event, run}
 use Rattle.linebox.specs.Ends.{events}
+use Rattle.demands.specs.Names.{Connection, Mode1, Mode4, Mode10, Mode11, State, Line}
 use Rattle.demands.specs.Lent.{lines}
 
 pub run-append : (s : State) (es fs : List Event) → run s (es ++ fs) ≡ run (run s es) fs

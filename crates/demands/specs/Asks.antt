@@ -3,21 +3,13 @@ use Prim.Native.Nat.{ℕ}
 use mathlib.Core.Bool.{Bool, true, false, cond, _||_}
 use mathlib.Core.List.{List, [], _∷_, _++_}
 use lib.Dec.{eqb}
-use Rattle.code.specs.declared.Case.{Case}
-use Rattle.code.specs.declared.Kind.{Kind}
-use Rattle.code.specs.declared.Kind.the-variants.{Still, Space, Return, Shift, Char}
-use Rattle.code.specs.declared.Conversion.{Conversion}
 use Rattle.code.specs.declared.Conversion.the-variants.{Nothing, Free, Cased}
 use Rattle.code.specs.Rows.{rowAt}
 use Rattle.code.specs.Kinds.{kindOf}
 use Rattle.code.specs.Convert.{capital, conversion}
 use Rattle.command.specs.Read.{read, textOf}
-use Rattle.settings.specs.declared.Connection.{Connection}
-use Rattle.settings.specs.declared.Connection.the-variants.{Mode1, Mode4, Mode10, Mode11}
-use Rattle.linebox.specs.declared.State.{State}
-use Rattle.linebox.specs.declared.Stream.{Stream}
-use Rattle.linebox.specs.declared.Stream.the-variants.{Host, Line, Tu}
 use Rattle.linebox.specs.Step.{step, Event}
+use Rattle.demands.specs.Names.{Case, Kind, Still, Space, Return, Shift, Char, Conversion, Connection, Mode1, Mode4, Mode10, Mode11, State, Stream, Host, Line, Tu}
 
 -- Host text.
 

@@ -1,15 +1,15 @@
 -- A session that meets every premise of demand 3: commands, text, an ending, a change of limit, a second connection, and there a
 -- printer that unshifts on space by itself; two of its calls stop early.
 use Prim.Native.Nat.{ℕ}
-use mathlib.Core.Bool.{true, false}
+use mathlib.Core.Bool.{true, false, cond}
 use mathlib.Core.List.{List, [], _∷_, _++_}
+use lib.Dec.{ltb}
 use lib.ListN.{replicate}
 use Rattle.printer.specs.Printer.{from}
 use Rattle.linebox.specs.Step.{Event}
 use Rattle.linebox.specs.Ends.{events}
 use Rattle.demands.specs.Names.{Figures, Printer, Host, Line, Tu}
 use Rattle.demands.specs.Lent.{Lent}
-use Rattle.demands.specs.Story.{Turn}
 use Rattle.demands.specs.Traces.{write, mode4, on70, endings}
 
 -- a call with so much room in the line buffer
@@ -47,6 +47,10 @@ calls =
     ∷ record { stream = Line; bytes = 3 ∷ []; one = replicate 20 0; two = replicate 20 0 }
     ∷ []
 
+-- the bytes that they take
+abbrev pub bytes : List Event
+bytes = events Host (endings ++ hello ++ world ++ change ++ mode4) ++ events Tu figure ++ events Line (3 ∷ [])
+
 -- a printer for each connection; the second unshifts on space
 abbrev pub first : Printer
 first = from Figures 7 false false
@@ -54,13 +58,9 @@ first = from Figures 7 false false
 abbrev pub second : Printer
 second = from Figures 40 true false
 
-abbrev pub with : Printer → List Event → List Turn
-with p [] = []
-with p (e ∷ es) = record { event = e; joining = p } ∷ with p es
-
--- the bytes taken
-abbrev pub turns : List Turn
-turns = with first (events Host (endings ++ hello ++ world ++ change)) ++ with second (events Host mode4 ++ events Tu figure ++ events Line (3 ∷ []))
+-- the second connection comes after the fiftieth byte
+abbrev pub joining : ℕ → Printer
+joining n = cond (ltb n 50) first second
 
 -- the codes in the line buffers
 abbrev pub codes : List ℕ

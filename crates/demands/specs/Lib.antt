@@ -6,6 +6,7 @@ pub mod ItemCodes
 pub mod Asks
 pub mod Lent
 pub mod Story
+pub mod Printing
 pub mod OnRecord
 pub mod ReadingBack
 pub mod WrongBoxes

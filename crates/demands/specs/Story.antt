@@ -1,32 +1,16 @@
--- The printer of demand 3: what it hears of a box, when it is obedient, and what is demanded.
-use Prim.Native.Nat.{ℕ}
-use mathlib.Core.Path.{_≡_}
-use mathlib.Core.Bool.{Bool, true, false, cond, _||_}
+-- The story of a box and its printers: what they hear, what they print, and when they are obedient.
+use Prim.Native.Nat.{ℕ, suc}
+use mathlib.Core.Bool.{Bool, false, cond, _||_}
 use mathlib.Core.List.{List, [], _∷_, _++_}
-use Rattle.code.specs.Kinds.{kindOf}
-use Rattle.command.specs.declared.Out.{Out}
-use Rattle.command.specs.declared.Out.the-variants.{Nothing, One, Two, Finished}
 use Rattle.command.specs.Read.{read, textOf}
-use Rattle.settings.specs.declared.Connection.{Connection}
-use Rattle.settings.specs.declared.Connection.the-variants.{Mode1, Mode4, Mode10, Mode11}
 use Rattle.settings.specs.Command.{commanded}
-use Rattle.printer.specs.declared.Printer.{Printer}
-use Rattle.printer.specs.declared.Mark.{Mark}
-use Rattle.printer.specs.Printer.{hear, hears, prints, sheet}
-use Rattle.sender.specs.declared.Wanted.{Wanted}
+use Rattle.printer.specs.Printer.{hears, sheet}
 use Rattle.sender.specs.Item.{wanted}
-use Rattle.agree.specs.Agrees.{Agrees, Obeys}
-use Rattle.agree.specs.Asked.{printedAll}
-use Rattle.agree.specs.Margin.{Below}
+use Rattle.agree.specs.Agrees.{Obeys}
 use Rattle.agree.specs.Sure.{isReturn, holds}
-use Rattle.linebox.specs.declared.State.{State}
-use Rattle.linebox.specs.declared.Stream.{Stream}
-use Rattle.linebox.specs.declared.Stream.the-variants.{Host, Line, Tu}
 use Rattle.linebox.specs.State.{freshBox}
 use Rattle.linebox.specs.Step.{Step, text, step, Event}
-use Rattle.demands.specs.Box.{Result, Box}
-use Rattle.demands.specs.Lent.{Lent, result, tookAll, sentAll}
-use Rattle.demands.specs.Asks.{codeIn, asks, asksAll}
+use Rattle.demands.specs.Names.{Out, Nothing, One, Two, Finished, Connection, Mode1, Mode4, Mode10, Mode11, Wanted, Printer, Mark, State, Stream, Host, Line, Tu}
 
 -- Whose turn it is.
 
@@ -50,9 +34,10 @@ pub record Turn : Type 0 where
   pub event : Event
   pub joining : Printer
 
-abbrev pub eventsOf : List Turn → List Event
-eventsOf [] = []
-eventsOf (t ∷ ts) = t .event ∷ eventsOf ts
+-- bytes taken, counted from n, where the printer `joining n` takes the line if the n-th connects
+abbrev pub turns : (ℕ → Printer) → ℕ → List Event → List Turn
+turns joining n [] = []
+turns joining n (e ∷ es) = record { event = e; joining = joining n } ∷ turns joining (suc n) es
 
 -- the box, the printer on its line, and whether a return was sent since the last connection
 pub record Scene : Type 0 where
@@ -112,55 +97,3 @@ itemsBy Tu s c = carriedTo (s .connection) s c
 
 abbrev pub itemsOf : State → Event → List Wanted
 itemsOf s e = itemsBy (e .stream) s (e .byte)
-
--- what they are to print as
-abbrev pub reads : List Wanted → List ℕ
-reads [] = []
-reads (w ∷ ws) = codeIn (w .case) (w .code) ++ reads ws
-
--- after the first return, what lands lands below the limit
-abbrev pub Within : ℕ → Bool → Printer → List ℕ → Type 0
-Within limit returned p [] = Unit {0}
-Within limit returned p (c ∷ cs) = (returned ≡ true → Below limit (prints p c)) × Within limit (returned || isReturn (kindOf c)) (hear p c) cs
-
--- What is demanded whenever a byte is taken.
-pub record Keeps (x : Scene) (e : Event) : Type 0 where
-  -- a case on record is the printer's, and a column on record is its count, staying at 255
-  pub agrees : Agrees (x .state .sender .held) (x .printer)
-  -- with 49 off, exactly what is asked for is printed
-  pub plain : x .state .settings .endings ≡ false → charactersOf (sheet (x .printer) (does x e .line)) ≡ asks (x .state) e
-  -- on or off, each item prints what string 90 prints if its condition held, and then its character
-  pub exact : sheet (x .printer) (does x e .line) ≡ printedAll (x .state .settings) (x .state .sender) (x .printer) (itemsOf (x .state) e)
-  -- and those characters are what is asked for
-  pub asked : reads (itemsOf (x .state) e) ≡ asks (x .state) e
-  -- with 49 on, after the first return, each space and struck character lands below the limit
-  pub margin : x .state .settings .endings ≡ true → Within (x .state .settings .limit) (x .returned) (x .printer) (does x e .line)
-
--- at every moment
-abbrev pub Holds : Scene → List Turn → Type 0
-Holds x [] = Agrees (x .state .sender .held) (x .printer)
-Holds x (t ∷ ts) = Keeps x (t .event) × Holds (turned x t) ts
-
--- 49 is off whenever a byte is taken
-abbrev pub Off : State → List Event → Type 0
-Off s [] = Unit {0}
-Off s (e ∷ es) = (s .settings .endings ≡ false) × Off (step (e .stream) s (e .byte) .state) es
-
--- the state that the last call left
-abbrev pub left : Box → State → List Lent → State
-left box s [] = s
-left box s (g ∷ gs) = left box (result box s g .gives .state) gs
-
--- What is demanded of calls from a fresh box, and of the bytes that they took with the printers that took the line.
-pub record Printed (box : Box) (gs : List Lent) (p : Printer) (ts : List Turn) : Type 0 where
-  -- the printers hear what the calls wrote to the line buffers
-  pub heard : sentAll box freshBox gs ≡ lineOf (start p) ts
-  pub state : left box freshBox gs ≡ after (start p) ts .state
-  pub holds : Holds (start p) ts
-  -- with 49 off, the list printed is the list asked for
-  pub prints : Off freshBox (eventsOf ts) → charactersOf (sheetOf (start p) ts) ≡ asksAll freshBox (eventsOf ts)
-
--- Demand 3, of any box: any calls from a fresh one, any bytes and buffers, each handed the last state, all answers included; any
--- printer at first, and any at each connection command that succeeds.
-abbrev pub Printing : Box → Type 0
-Printing box = (gs : List Lent) (p : Printer) (ts : List Turn) → eventsOf ts ≡ tookAll box freshBox gs → Obedient (start p) ts → Printed box gs p ts

@@ -4,10 +4,9 @@ use mathlib.Core.Bool.{Bool, true, false, _&&_}
 use mathlib.Core.List.{List, [], _∷_, _++_}
 use lib.Dec.{eqb}
 use lib.ListN.{length}
-use Rattle.linebox.specs.declared.Stream.{Stream}
-use Rattle.linebox.specs.declared.Stream.the-variants.{Host, Tu}
 use Rattle.linebox.specs.State.{freshBox}
 use Rattle.linebox.specs.Call.{Done, call}
+use Rattle.demands.specs.Names.{Stream, Host, Tu}
 
 -- a fresh box is given host bytes first, and then the bytes of the trace, which send these codes
 pub record Trace : Type 0 where

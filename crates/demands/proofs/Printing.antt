@@ -1,14 +1,10 @@
 -- Demand 3. Between two bytes the state is sound, the record and the printer agree, and after a return the column is on record.
 -- Assumes nothing.
-use Prim.Native.Nat.{ℕ}
+use Prim.Native.Nat.{ℕ, suc}
 use mathlib.Core.Path.{_≡_, refl, sym, ap, _∙_}
 use mathlib.Core.Bool.{Bool, true, false, cond, _||_, false≢true}
 use mathlib.Core.List.{List, [], _∷_, _++_}
-use Rattle.settings.specs.declared.Settings.{Settings}
-use Rattle.printer.specs.declared.Printer.{Printer}
 use Rattle.printer.specs.Printer.{hears, sheet}
-use Rattle.sender.specs.declared.Sender.{Sender}
-use Rattle.sender.specs.declared.Wanted.{Wanted}
 use Rattle.sender.specs.Item.{items, afterItems, fresh}
 use Rattle.agree.specs.Agrees.{Agrees, Obeys}
 use Rattle.agree.specs.Asked.{printedAll}
@@ -17,16 +13,17 @@ use Rattle.agree.proofs.Agreement.{agreement, unknown-agrees}
 use Rattle.agree.proofs.Folds.{items-noted}
 use Rattle.agree.proofs.Prints.{items-print}
 use Rattle.agree.proofs.Told.{column-told}
-use Rattle.linebox.specs.declared.State.{State}
 use Rattle.linebox.specs.State.{sound, freshBox}
-use Rattle.linebox.specs.Step.{step, Event, run}
+use Rattle.linebox.specs.Step.{Event, run}
 use Rattle.linebox.specs.Ends.{events}
 use Rattle.linebox.proofs.Stays.{sound-parts, sound-step, fresh-sound}
-use Rattle.demands.specs.Box.{Result, Box, ours}
+use Rattle.demands.specs.Names.{Settings, Wanted, Sender, Printer, State}
+use Rattle.demands.specs.Box.{Box, ours}
 use Rattle.demands.specs.EveryCall.{EveryCall}
 use Rattle.demands.specs.Lent.{lines, Lent, result, tookAll}
-use Rattle.demands.specs.Asks.{asks, asksAll}
-use Rattle.demands.specs.Story.{connects, Turn, eventsOf, Scene, start, does, turned, after, lineOf, sheetOf, Obedient, charactersOf, itemsOf, Within, Keeps, Holds, Off, left, Printing}
+use Rattle.demands.specs.Asks.{asksAll}
+use Rattle.demands.specs.Story.{connects, Turn, turns, Scene, start, does, turned, after, lineOf, sheetOf, Obedient, charactersOf, itemsOf}
+use Rattle.demands.specs.Printing.{Within, Keeps, Holds, Off, left, Printing}
 use Rattle.demands.proofs.Sessions.{run-append}
 use Rattle.demands.proofs.OurBox.{ours-every-call}
 use Rattle.demands.proofs.Lent.{took-taken, all-sent}
@@ -94,6 +91,11 @@ holds-from x (t ∷ ts) h obeys = (keeps x (t .event) h (obeys .0), holds-from (
 
 -- The whole list.
 
+-- the bytes of a story
+abbrev eventsOf : List Turn → List Event
+eventsOf [] = []
+eventsOf (t ∷ ts) = t .event ∷ eventsOf ts
+
 prints-from : (x : Scene) (ts : List Turn) → Holds x ts → Off (x .state) (eventsOf ts) → charactersOf (sheetOf x ts) ≡ asksAll (x .state) (eventsOf ts)
 prints-from x [] h off = refl
 prints-from x (t ∷ ts) h off =
@@ -109,6 +111,10 @@ line-lines : (x : Scene) (ts : List Turn) → lineOf x ts ≡ lines (x .state) (
 line-lines x [] = refl
 line-lines x (t ∷ ts) = ap (λ (r : List ℕ). does x (t .event) .line ++ r) (line-lines (turned x t) ts)
 
+turns-events : (joining : ℕ → Printer) (n : ℕ) (es : List Event) → eventsOf (turns joining n es) ≡ es
+turns-events joining n [] = refl
+turns-events joining n (e ∷ es) = rw (turns-events joining (suc n) es)
+
 module _ (box : Box) (meets : EveryCall box) where
   -- the state that the last call left is that of the bytes taken
   left-run : (s : State) (gs : List Lent) → left box s gs ≡ run s (tookAll box s gs)
@@ -123,14 +129,17 @@ module _ (box : Box) (meets : EveryCall box) where
 
   -- Demand 3 of every box that meets demand 1.
   pub box-prints : Printing box
-  box-prints gs p ts e obeys =
+  box-prints gs p joining obeys =
+      let es = tookAll box freshBox gs in
+      let ts = turns joining 0 es in
+      let e : eventsOf ts ≡ es = turns-events joining 0 es in
       let stands : Stands (start p) = record { sound = fresh-sound; agrees = unknown-agrees p; sure = λ q. absurd (false≢true q) } in
       let h = holds-from (start p) ts stands obeys in
       record {
         heard = all-sent box meets freshBox gs ∙ ap (lines freshBox) (sym e) ∙ sym (line-lines (start p) ts);
         state = left-run freshBox gs ∙ ap (run freshBox) (sym e) ∙ sym (after-run (start p) ts);
         holds = h;
-        prints = prints-from (start p) ts h;
+        prints = λ off. prints-from (start p) ts h (rw e off) ∙ ap (asksAll freshBox) e;
       }
 
 -- Every character asked for prints as itself, in order; a case on record is the printer's and a column on record its count; after
