@@ -8,9 +8,9 @@ use Rattle.linebox.specs.State.{sound}
 use Rattle.linebox.specs.Call.{Done, call, taking, stopped, numberOf}
 use Rattle.linebox.specs.Byte.{Calls, CallsOne}
 use Rattle.board.specs.Names.{Stream, Unsound, Called}
-use Rattle.board.specs.Spelling.{spells, spelt, stateOf, loaded}
+use Rattle.spelling.specs.Spelling.{spells, spelt, stateOf, loaded}
 use Rattle.board.specs.Calls.{spellsSound, after, asked, Boards, BoardsOne}
-use Rattle.board.proofs.Same.{its-spelling}
+use Rattle.spelling.proofs.Same.{its-spelling}
 
 module _ (t : Stream) (b xs : List ℕ) (n m : ℕ) where
   -- answer 3 comes before all

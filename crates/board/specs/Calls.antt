@@ -8,7 +8,7 @@ use Rattle.laws.specs.Written.{fronted}
 use Rattle.linebox.specs.State.{sound}
 use Rattle.linebox.specs.Call.{Done, call, stopped, numberOf}
 use Rattle.board.specs.Names.{Stream, Unsound}
-use Rattle.board.specs.Spelling.{spells, spelt, stateOf}
+use Rattle.spelling.specs.Spelling.{spells, spelt, stateOf}
 
 -- the bytes are the spelling of a sound state
 abbrev pub spellsSound : List ℕ → Bool

@@ -1,4 +1,3 @@
 pub mod Names
-pub mod Spelling
 pub mod Calls
 pub mod Finds

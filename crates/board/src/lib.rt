@@ -5,23 +5,13 @@ ghost use lib.ListN.{length};
 ghost use Rattle.linebox.specs.State.{freshBox};
 ghost use Rattle.linebox.specs.Call.{numberOf};
 ghost use Rattle.board.specs.Names.{Host as Names·Host, Line as Names·Line, Tu as Names·Tu};
-ghost use Rattle.board.specs.Spelling.{spelt};
+ghost use Rattle.spelling.specs.Spelling.{spelt};
 ghost use Rattle.board.specs.Calls.{asked, Boards, BoardsOne};
 ghost use Rattle.board.specs.Finds.{Finds};
 use linebox::Answer;
 use linebox::Called;
-use linebox::State;
-use load::load;
-use save::save;
-
-mod load;
-mod save;
-
-// What bytes read as, and whether they spell it.
-pub struct Loaded {
-    pub spelt: bool,
-    pub state: State,
-}
+use spelling::load::load;
+use spelling::save::save;
 
 // The number of an answer.
 fn number_of(a: Answer) -> u32

@@ -1,0 +1,67 @@
+-- `spelling::load::same` meets its contract: what was compared so far and the bytes that remain tell the whole.
+-- Assumes nothing.
+use Prim.Native.Nat.{_≤_, _<_, _-_}
+use mathlib.Core.Path.{_≡_, refl, sym, _∙_}
+use mathlib.Core.Bool.{_&&_}
+use native.Mathlib.Omega.{arith}
+use lib.ListN.{length, drop}
+use Rattle.spelling.specs.Spelling.{same}
+use Rattle.spelling.proofs.Same.{same-turn, same-end}
+use borrow.Author.Needs.{needs}
+use Rattle.spelling.proofs.load.same.Statement.{statement}
+use Rattle.spelling.proofs.load.same.Tie as tie
+
+abbrev Inv-loop : tie.InvT-loop
+Inv-loop a b alike₀ i₀ alike i = (i ≤ 128) × (same a b ≡ (alike && same (drop i a) (drop i b)))
+
+abbrev μ-loop : tie.MeasureT-loop
+μ-loop a b alike₀ i₀ alike i = 128 - i
+
+loop-holds : tie.Need-loop-holds Inv-loop μ-loop
+loop-holds c = (search needs, refl)
+
+array-read-alike : tie.Need-array-read-alike Inv-loop μ-loop
+array-read-alike c = search needs
+
+array-read-alike-2 : tie.Need-array-read-alike-2 Inv-loop μ-loop
+array-read-alike-2 c = search needs
+
+add-i : tie.Need-add-i Inv-loop μ-loop
+add-i c = search needs
+
+loop-less : tie.Need-loop-less Inv-loop μ-loop
+loop-less c = search needs
+
+loop-again : tie.Need-loop-again Inv-loop μ-loop
+loop-again c =
+    let l = c .before .loop in
+    let a = c .before .before .args in
+    let m : length (a .t1) ≡ 128 = c .before .before .good .0 .1 .0 .1 in
+    let n : length (a .t2) ≡ 128 = c .before .before .good .1 .0 .1 .0 .1 in
+    let h : l .i < length (a .t1) = omega arith in
+    let k : l .i < length (a .t2) = omega arith in
+    (omega arith, l .inv .1 ∙ same-turn (a .t1) (a .t2) (l .i) (l .alike) h k)
+
+returns : tie.Need-returns Inv-loop μ-loop
+returns c =
+    let l = c .before .loop in
+    let a = c .before .before .args in
+    let m : length (a .t1) ≡ 128 = c .before .before .good .0 .1 .0 .1 in
+    let n : length (a .t2) ≡ 128 = c .before .before .good .1 .0 .1 .0 .1 in
+    let h : length (a .t1) ≤ l .i = omega arith in
+    let k : length (a .t2) ≤ l .i = omega arith in
+    sym (l .inv .1 ∙ same-end (a .t1) (a .t2) (l .i) (l .alike) h k)
+
+pub same-spec : {M : Type 1} → statement M
+same-spec =
+    tie.close
+    (tie.spec
+    Inv-loop
+    μ-loop
+    loop-holds
+    array-read-alike
+    array-read-alike-2
+    add-i
+    loop-less
+    loop-again
+    returns)

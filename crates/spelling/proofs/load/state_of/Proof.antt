@@ -1,0 +1,60 @@
+-- `spelling::load::state_of` meets its contract.
+-- Assumes nothing.
+use Rattle.spelling.specs.Spelling.{stateOf}
+use borrow.Author.Needs.{needs}
+use Rattle.spelling.proofs.load.state_of.Statement.{statement}
+use Rattle.spelling.proofs.load.state_of.Tie as tie
+
+settings-of-requires : tie.Need-settings-of-requires
+settings-of-requires c κs = search needs
+
+array-read-connection-of : tie.Need-array-read-connection-of
+array-read-connection-of c = search needs
+
+array-read-connection-of-2 : tie.Need-array-read-connection-of-2
+array-read-connection-of-2 c = search needs
+
+array-read-connection-of-3 : tie.Need-array-read-connection-of-3
+array-read-connection-of-3 c = search needs
+
+connection-of-requires : tie.Need-connection-of-requires
+connection-of-requires c κs = search needs
+
+sender-of-requires : tie.Need-sender-of-requires
+sender-of-requires c κs = search needs
+
+array-read-case-of : tie.Need-array-read-case-of
+array-read-case-of c = search needs
+
+case-of-requires : tie.Need-case-of-requires
+case-of-requires c κs = search needs
+
+array-read-case-of-2 : tie.Need-array-read-case-of-2
+array-read-case-of-2 c = search needs
+
+case-of-requires-2 : tie.Need-case-of-requires-2
+case-of-requires-2 c κs = search needs
+
+reader-of-requires : tie.Need-reader-of-requires
+reader-of-requires c κs = search needs
+
+returns : tie.Need-returns
+unfolding stateOf
+returns c = rw (c .before .before .before .before .before .settings-of .ensures, c .before .before .before .before .connection-of .ensures, c .before .before .before .sender-of .ensures, c .before .before .case-of .ensures, c .before .case-of2 .ensures, c .reader-of .ensures)
+
+pub state-of-spec : {M : Type 1} → statement M
+state-of-spec =
+    tie.close
+    (tie.spec
+    settings-of-requires
+    array-read-connection-of
+    array-read-connection-of-2
+    array-read-connection-of-3
+    connection-of-requires
+    sender-of-requires
+    array-read-case-of
+    case-of-requires
+    array-read-case-of-2
+    case-of-requires-2
+    reader-of-requires
+    returns)

@@ -1,0 +1,164 @@
+-- The state as 128 bytes: each field at its offset, and what bytes spell.
+use Prim.Native.Nat.{ℕ, zero, suc}
+use mathlib.Core.Bool.{Bool, true, false, cond, _&&_}
+use mathlib.Core.List.{List, [], _∷_, _++_}
+use lib.Dec.{eqb}
+use lib.ListN.{getD, set, replicate}
+use Rattle.spelling.specs.Names.{Case, Letters, Figures, Verb, Write, Read, Other, Form, Empty, Digits, Ex, Stage, Text, Swallow, Held, Begun, Lettered, Typed, Fields, Discard, Reader, Settings, Connection, Mode1, Mode4, Mode10, Mode11, Known, Is, Column, At, Last, Shift, Record, Sender, State, Loaded}
+use Rattle.spelling.specs.Names.known
+use Rattle.spelling.specs.Names.column
+use Rattle.spelling.specs.Names.last
+
+-- n elements from place i on
+abbrev pub part : List ℕ → ℕ → ℕ → List ℕ
+part xs i zero = []
+part xs i (suc n) = getD xs i 0 ∷ part xs (suc i) n
+
+-- Fields as bytes.
+
+abbrev pub bit : Bool → ℕ
+bit false = 0
+bit true = 1
+
+abbrev pub caseByte : Case → ℕ
+caseByte Letters = 1
+caseByte Figures = 2
+
+abbrev pub knownByte : Known → ℕ
+knownByte known.Unknown = 0
+knownByte (Is case) = caseByte case
+
+abbrev pub lastByte : Last → ℕ
+lastByte last.Other = 0
+lastByte (Shift case) = caseByte case
+
+abbrev pub verbByte : Verb → ℕ
+verbByte Other = 0
+verbByte Write = 1
+verbByte Read = 2
+
+abbrev pub formByte : Form → ℕ
+formByte Empty = 0
+formByte Digits = 1
+formByte Ex = 2
+
+-- 0 to 13: options 49, 50, 70, 71, 72 and 74, and string 90
+abbrev pub settingsBytes : Settings → List ℕ
+settingsBytes o = bit (o .endings) ∷ o .limit ∷ bit (o .onspace) ∷ bit (o .onreturn) ∷ bit (o .filter) ∷ bit (o .reports) ∷ part (o .string) 0 8
+
+-- 14 to 16: the connection's mode, port and speed
+abbrev pub connectionBytes : Connection → List ℕ
+connectionBytes (Mode1 port speed) = 1 ∷ port ∷ speed ∷ []
+connectionBytes (Mode4 port speed) = 4 ∷ port ∷ speed ∷ []
+connectionBytes Mode10 = 10 ∷ 0 ∷ 0 ∷ []
+connectionBytes Mode11 = 11 ∷ 0 ∷ 0 ∷ []
+
+-- 18 and 19: whether the column is known, and the column
+abbrev pub columnBytes : Column → List ℕ
+columnBytes column.Unknown = 0 ∷ 0 ∷ []
+columnBytes (At n) = 1 ∷ n ∷ []
+
+-- 17 to 20: the record, and the last item
+abbrev pub senderBytes : Sender → List ℕ
+senderBytes x = knownByte (x .held .case) ∷ columnBytes (x .held .column) ++ lastByte (x .last) ∷ []
+
+-- 23 to 26: the command reader's stage, and what it knows of the command
+abbrev pub stageBytes : Stage → List ℕ
+stageBytes Text = 0 ∷ 0 ∷ 0 ∷ 0 ∷ []
+stageBytes Swallow = 1 ∷ 0 ∷ 0 ∷ 0 ∷ []
+stageBytes Held = 2 ∷ 0 ∷ 0 ∷ 0 ∷ []
+stageBytes Begun = 3 ∷ 0 ∷ 0 ∷ 0 ∷ []
+stageBytes (Lettered small t) = 4 ∷ bit small ∷ bit t ∷ 0 ∷ []
+stageBytes (Typed v) = 5 ∷ verbByte v ∷ 0 ∷ 0 ∷ []
+stageBytes (Fields v f last) = 6 ∷ verbByte v ∷ formByte f ∷ last ∷ []
+stageBytes Discard = 7 ∷ 0 ∷ 0 ∷ 0 ∷ []
+
+-- 23 to 37: the command reader, the fields it has read last
+abbrev pub readerBytes : Reader → List ℕ
+readerBytes r = stageBytes (r .stage) ++ part (r .values) 0 11
+
+-- 38 to 127
+abbrev pub spare : List ℕ
+spare = replicate 90 0
+
+-- the whole state; 21 and 22 are the reading cases
+unfoldable pub spelt : State → List ℕ
+spelt s = settingsBytes (s .settings) ++ (connectionBytes (s .connection) ++ (senderBytes (s .sender) ++ (caseByte (s .reading) ∷ caseByte (s .incoming) ∷ readerBytes (s .reader) ++ spare)))
+
+-- Bytes as fields. A byte that no field's value has reads as some value: it is the spelling that tells.
+
+abbrev pub caseOf : ℕ → Case
+caseOf n = cond (eqb n 1) Letters Figures
+
+abbrev pub knownOf : ℕ → Known
+knownOf n = cond (eqb n 0) known.Unknown (Is (caseOf n))
+
+abbrev pub columnOf : ℕ → ℕ → Column
+columnOf is n = cond (eqb is 1) (At n) column.Unknown
+
+abbrev pub lastOf : ℕ → Last
+lastOf n = cond (eqb n 0) last.Other (Shift (caseOf n))
+
+abbrev pub verbOf : ℕ → Verb
+verbOf n = cond (eqb n 1) Write (cond (eqb n 2) Read Other)
+
+abbrev pub formOf : ℕ → Form
+formOf n = cond (eqb n 1) Digits (cond (eqb n 2) Ex Empty)
+
+abbrev pub settingsOf : List ℕ → Settings
+settingsOf b = record {
+  endings = eqb (getD b 0 0) 1;
+  limit = getD b 1 0;
+  onspace = eqb (getD b 2 0) 1;
+  onreturn = eqb (getD b 3 0) 1;
+  filter = eqb (getD b 4 0) 1;
+  reports = eqb (getD b 5 0) 1;
+  string = part b 6 8;
+}
+
+abbrev pub connectionOf : ℕ → ℕ → ℕ → Connection
+connectionOf mode port speed = cond (eqb mode 1) (Mode1 port speed) (cond (eqb mode 4) (Mode4 port speed) (cond (eqb mode 10) Mode10 Mode11))
+
+abbrev pub senderOf : List ℕ → Sender
+senderOf b = record { held = record { case = knownOf (getD b 17 0); column = columnOf (getD b 18 0) (getD b 19 0) }; last = lastOf (getD b 20 0) }
+
+-- the stages in which no command is being read, and the discarding one
+abbrev pub plainStage : ℕ → Stage
+plainStage n = cond (eqb n 0) Text (cond (eqb n 1) Swallow (cond (eqb n 2) Held (cond (eqb n 3) Begun Discard)))
+
+abbrev pub stageOf : ℕ → ℕ → ℕ → ℕ → Stage
+stageOf n x y z = cond (eqb n 4) (Lettered (eqb x 1) (eqb y 1)) (cond (eqb n 5) (Typed (verbOf x)) (cond (eqb n 6) (Fields (verbOf x) (formOf y) z) (plainStage n)))
+
+abbrev pub readerOf : List ℕ → Reader
+readerOf b = record { stage = stageOf (getD b 23 0) (getD b 24 0) (getD b 25 0) (getD b 26 0); values = part b 27 11 }
+
+unfoldable pub stateOf : List ℕ → State
+stateOf b = record {
+  settings = settingsOf b;
+  connection = connectionOf (getD b 14 0) (getD b 15 0) (getD b 16 0);
+  sender = senderOf b;
+  reading = caseOf (getD b 21 0);
+  incoming = caseOf (getD b 22 0);
+  reader = readerOf b;
+}
+
+-- What bytes spell.
+
+abbrev pub same : List ℕ → List ℕ → Bool
+same [] [] = true
+same [] (y ∷ ys) = false
+same (x ∷ xs) [] = false
+same (x ∷ xs) (y ∷ ys) = eqb x y && same xs ys
+
+-- bytes spell the state that they read as if they are its spelling, to the last byte
+unfoldable pub spells : List ℕ → Bool
+spells b = same b (spelt (stateOf b))
+
+-- elements written one after another from a place on
+abbrev pub puts : List ℕ → ℕ → List ℕ → List ℕ
+puts b i [] = b
+puts b i (x ∷ xs) = puts (set b i x) (suc i) xs
+
+-- what is known of bytes
+abbrev pub loaded : List ℕ → Loaded
+loaded b = record { spelt = spells b; state = stateOf b }

@@ -1,0 +1,213 @@
+// What 128 bytes spell: each field from its offset, and the test that they are that state's spelling to the last byte.
+ghost use mathlib.Core.Path.{_≡_};
+ghost use lib.ListN.{getD};
+ghost use Rattle.spelling.specs.Spelling.{caseOf, columnOf, connectionOf, formOf, knownOf, lastOf, loaded, part, plainStage, readerOf, same, senderOf, settingsOf, stageOf, stateOf, verbOf};
+use crate::Loaded;
+use crate::save::save;
+use code::Case;
+use command::Form;
+use command::Reader;
+use command::Stage;
+use command::Verb;
+use linebox::State;
+use sender::Column;
+use sender::Known;
+use sender::Last;
+use sender::Record;
+use sender::Sender;
+use settings::Connection;
+use settings::Settings;
+
+// The case of a byte.
+fn case_of(n: u8) -> Case
+    ensures { λ r. ⌜ r ≡ caseOf n ⌝ }
+{
+    if n == 1 { Case::Letters } else { Case::Figures }
+}
+
+// The record's case of a byte.
+fn known_of(n: u8) -> Known
+    ensures { λ r. ⌜ r ≡ knownOf n ⌝ }
+{
+    if n == 0 {
+        Known::Unknown
+    } else {
+        Known::Is(case_of(n))
+    }
+}
+
+// The record's column of two bytes.
+fn column_of(is: u8, n: u8) -> Column
+    ensures { λ r. ⌜ r ≡ columnOf is n ⌝ }
+{
+    if is == 1 {
+        Column::At(n)
+    } else {
+        Column::Unknown
+    }
+}
+
+// The last item of a byte.
+fn last_of(n: u8) -> Last
+    ensures { λ r. ⌜ r ≡ lastOf n ⌝ }
+{
+    if n == 0 {
+        Last::Other
+    } else {
+        Last::Shift(case_of(n))
+    }
+}
+
+// The command's type of a byte.
+fn verb_of(n: u8) -> Verb
+    ensures { λ r. ⌜ r ≡ verbOf n ⌝ }
+{
+    match n {
+        1 => Verb::Write,
+        2 => Verb::Read,
+        _ => Verb::Other,
+    }
+}
+
+// What stands in a field, of a byte.
+fn form_of(n: u8) -> Form
+    ensures { λ r. ⌜ r ≡ formOf n ⌝ }
+{
+    match n {
+        1 => Form::Digits,
+        2 => Form::Ex,
+        _ => Form::Empty,
+    }
+}
+
+// The connection of three bytes.
+fn connection_of(mode: u8, port: u8, speed: u8) -> Connection
+    ensures { λ r. ⌜ r ≡ connectionOf mode port speed ⌝ }
+{
+    match mode {
+        1 => Connection::Mode1(port, speed),
+        4 => Connection::Mode4(port, speed),
+        10 => Connection::Mode10,
+        _ => Connection::Mode11,
+    }
+}
+
+// The stages of one byte alone.
+fn plain_stage(n: u8) -> Stage
+    ensures { λ r. ⌜ r ≡ plainStage n ⌝ }
+{
+    match n {
+        0 => Stage::Text,
+        1 => Stage::Swallow,
+        2 => Stage::Held,
+        3 => Stage::Begun,
+        _ => Stage::Discard,
+    }
+}
+
+// The command reader's stage of four bytes.
+fn stage_of(n: u8, x: u8, y: u8, z: u8) -> Stage
+    ensures { λ r. ⌜ r ≡ stageOf n x y z ⌝ }
+{
+    match n {
+        4 => Stage::Lettered(x == 1, y == 1),
+        5 => Stage::Typed(verb_of(x)),
+        6 => Stage::Fields(verb_of(x), form_of(y), z),
+        _ => plain_stage(n),
+    }
+}
+
+// The settings, from offset 0 on.
+fn settings_of(b: [u8; 128]) -> Settings
+    ensures { λ r. ⌜ r ≡ settingsOf b ⌝ }
+{
+    Settings {
+        endings: b[0] == 1,
+        limit: b[1],
+        onspace: b[2] == 1,
+        onreturn: b[3] == 1,
+        filter: b[4] == 1,
+        reports: b[5] == 1,
+        string: [b[6], b[7], b[8], b[9], b[10], b[11], b[12], b[13]],
+    }
+}
+
+// The record and the last item, from offset 17 on.
+fn sender_of(b: [u8; 128]) -> Sender
+    ensures { λ r. ⌜ r ≡ senderOf b ⌝ }
+{
+    Sender {
+        held: Record {
+            case: known_of(b[17]),
+            column: column_of(b[18], b[19]),
+        },
+        last: last_of(b[20]),
+    }
+}
+
+// The fields that the command reader has read, from offset 27 on.
+fn values_of(b: [u8; 128]) -> [u8; 11]
+    ensures { λ r. ⌜ r ≡ part b 27 11 ⌝ }
+{
+    [
+        b[27],
+        b[28],
+        b[29],
+        b[30],
+        b[31],
+        b[32],
+        b[33],
+        b[34],
+        b[35],
+        b[36],
+        b[37],
+    ]
+}
+
+// The command reader, from offset 23 on.
+fn reader_of(b: [u8; 128]) -> Reader
+    ensures { λ r. ⌜ r ≡ readerOf b ⌝ }
+{
+    Reader {
+        stage: stage_of(b[23], b[24], b[25], b[26]),
+        values: values_of(b),
+    }
+}
+
+// The whole state.
+fn state_of(b: [u8; 128]) -> State
+    ensures { λ r. ⌜ r ≡ stateOf b ⌝ }
+{
+    State {
+        settings: settings_of(b),
+        connection: connection_of(b[14], b[15], b[16]),
+        sender: sender_of(b),
+        reading: case_of(b[21]),
+        incoming: case_of(b[22]),
+        reader: reader_of(b),
+    }
+}
+
+// Whether the bytes are alike, to the last one.
+fn same(a: [u8; 128], b: [u8; 128]) -> bool
+    ensures { λ r. ⌜ r ≡ same a b ⌝ }
+{
+    let mut alike = true;
+    let mut i = 0;
+    while i < 128 {
+        alike = alike & (a[i] == b[i]);
+        i += 1;
+    }
+    alike
+}
+
+// The state that the bytes read as, and whether they spell it.
+pub fn load(b: [u8; 128]) -> Loaded
+    ensures { λ r. ⌜ r ≡ loaded b ⌝ }
+{
+    let state = state_of(b);
+    Loaded {
+        spelt: same(b, save(state)),
+        state,
+    }
+}

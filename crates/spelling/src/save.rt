@@ -1,0 +1,216 @@
+// The spelling of a state: each field at its offset.
+ghost use mathlib.Core.Path.{_≡_};
+ghost use mathlib.Core.List.{[], _∷_};
+ghost use Rattle.spelling.specs.Spelling.{caseByte, columnBytes, connectionBytes, formByte, knownByte, lastByte, part, puts, senderBytes, settingsBytes, spelt, stageBytes, verbByte};
+use code::Case;
+use command::Form;
+use command::Stage;
+use command::Verb;
+use linebox::State;
+use sender::Column;
+use sender::Known;
+use sender::Last;
+use sender::Sender;
+use settings::Connection;
+use settings::Settings;
+
+// A case: 1 letters, 2 figures.
+fn case_byte(c: Case) -> u8
+    ensures { λ r. ⌜ r ≡ caseByte c ⌝ }
+{
+    match c {
+        Case::Letters => 1,
+        Case::Figures => 2,
+    }
+}
+
+// The case that the record has: 0 unknown.
+fn known_byte(k: Known) -> u8
+    ensures { λ r. ⌜ r ≡ knownByte k ⌝ }
+{
+    match k {
+        Known::Unknown => 0,
+        Known::Is(c) => case_byte(c),
+    }
+}
+
+// Whether the column is known, and the column.
+fn column_bytes(c: Column) -> [u8; 2]
+    ensures { λ r. ⌜ r ≡ columnBytes c ⌝ }
+{
+    match c {
+        Column::Unknown => [0, 0],
+        Column::At(n) => [1, n],
+    }
+}
+
+// The last item: 0 any other or none.
+fn last_byte(l: Last) -> u8
+    ensures { λ r. ⌜ r ≡ lastByte l ⌝ }
+{
+    match l {
+        Last::Other => 0,
+        Last::Shift(c) => case_byte(c),
+    }
+}
+
+// A command's type: 0 other, 1 TW, 2 TR.
+fn verb_byte(v: Verb) -> u8
+    ensures { λ r. ⌜ r ≡ verbByte v ⌝ }
+{
+    match v {
+        Verb::Other => 0,
+        Verb::Write => 1,
+        Verb::Read => 2,
+    }
+}
+
+// What stands in a field: 0 nothing yet, 1 digits, 2 X.
+fn form_byte(f: Form) -> u8
+    ensures { λ r. ⌜ r ≡ formByte f ⌝ }
+{
+    match f {
+        Form::Empty => 0,
+        Form::Digits => 1,
+        Form::Ex => 2,
+    }
+}
+
+// The connection's mode, port and speed.
+fn connection_bytes(c: Connection) -> [u8; 3]
+    ensures { λ r. ⌜ r ≡ connectionBytes c ⌝ }
+{
+    match c {
+        Connection::Mode1(port, speed) => [1, port, speed],
+        Connection::Mode4(port, speed) => [4, port, speed],
+        Connection::Mode10 => [10, 0, 0],
+        Connection::Mode11 => [11, 0, 0],
+    }
+}
+
+// The command reader's stage, and what it knows of the command.
+fn stage_bytes(s: Stage) -> [u8; 4]
+    ensures { λ r. ⌜ r ≡ stageBytes s ⌝ }
+{
+    match s {
+        Stage::Text => [0, 0, 0, 0],
+        Stage::Swallow => [1, 0, 0, 0],
+        Stage::Held => [2, 0, 0, 0],
+        Stage::Begun => [3, 0, 0, 0],
+        Stage::Lettered(small, t) => [4, small as u8, t as u8, 0],
+        Stage::Typed(v) => [5, verb_byte(v), 0, 0],
+        Stage::Fields(v, f, last) => [6, verb_byte(v), form_byte(f), last],
+        Stage::Discard => [7, 0, 0, 0],
+    }
+}
+
+// The settings, from offset 0 on.
+fn with_settings(b: [u8; 128], s: Settings) -> [u8; 128]
+    ensures { λ r. ⌜ r ≡ puts b 0 (settingsBytes s) ⌝ }
+{
+    let mut bytes = b;
+    let string = s.string;
+    bytes[0] = s.endings as u8;
+    bytes[1] = s.limit;
+    bytes[2] = s.onspace as u8;
+    bytes[3] = s.onreturn as u8;
+    bytes[4] = s.filter as u8;
+    bytes[5] = s.reports as u8;
+    bytes[6] = string[0];
+    bytes[7] = string[1];
+    bytes[8] = string[2];
+    bytes[9] = string[3];
+    bytes[10] = string[4];
+    bytes[11] = string[5];
+    bytes[12] = string[6];
+    bytes[13] = string[7];
+    bytes
+}
+
+// The connection, from offset 14 on.
+fn with_connection(b: [u8; 128], c: Connection) -> [u8; 128]
+    ensures { λ r. ⌜ r ≡ puts b 14 (connectionBytes c) ⌝ }
+{
+    let mut bytes = b;
+    let part = connection_bytes(c);
+    bytes[14] = part[0];
+    bytes[15] = part[1];
+    bytes[16] = part[2];
+    bytes
+}
+
+// The record and the last item, from offset 17 on.
+fn with_sender(b: [u8; 128], s: Sender) -> [u8; 128]
+    ensures { λ r. ⌜ r ≡ puts b 17 (senderBytes s) ⌝ }
+{
+    let mut bytes = b;
+    let held = s.held;
+    let case = held.case;
+    let column = held.column;
+    let last = s.last;
+    let part = column_bytes(column);
+    bytes[17] = known_byte(case);
+    bytes[18] = part[0];
+    bytes[19] = part[1];
+    bytes[20] = last_byte(last);
+    bytes
+}
+
+// The command reader's stage, from offset 23 on.
+fn with_stage(b: [u8; 128], s: Stage) -> [u8; 128]
+    ensures { λ r. ⌜ r ≡ puts b 23 (stageBytes s) ⌝ }
+{
+    let mut bytes = b;
+    let part = stage_bytes(s);
+    bytes[23] = part[0];
+    bytes[24] = part[1];
+    bytes[25] = part[2];
+    bytes[26] = part[3];
+    bytes
+}
+
+// The fields that the command reader has read, from offset 27 on.
+fn with_values(b: [u8; 128], values: [u8; 11]) -> [u8; 128]
+    ensures { λ r. ⌜ r ≡ puts b 27 (part values 0 11) ⌝ }
+{
+    let mut bytes = b;
+    bytes[27] = values[0];
+    bytes[28] = values[1];
+    bytes[29] = values[2];
+    bytes[30] = values[3];
+    bytes[31] = values[4];
+    bytes[32] = values[5];
+    bytes[33] = values[6];
+    bytes[34] = values[7];
+    bytes[35] = values[8];
+    bytes[36] = values[9];
+    bytes[37] = values[10];
+    bytes
+}
+
+// The reading cases, at 21 and 22.
+fn with_cases(b: [u8; 128], reading: Case, incoming: Case) -> [u8; 128]
+    ensures { λ r. ⌜ r ≡ puts b 21 (caseByte reading ∷ caseByte incoming ∷ []) ⌝ }
+{
+    let mut bytes = b;
+    bytes[21] = case_byte(reading);
+    bytes[22] = case_byte(incoming);
+    bytes
+}
+
+// The whole state.
+pub fn save(s: State) -> [u8; 128]
+    ensures { λ r. ⌜ r ≡ spelt s ⌝ }
+{
+    let settings = s.settings;
+    let connection = s.connection;
+    let sender = s.sender;
+    let reading = s.reading;
+    let incoming = s.incoming;
+    let reader = s.reader;
+    let stage = reader.stage;
+    let values = reader.values;
+    let front = with_connection(with_settings([0u8; 128], settings), connection);
+    let known = with_cases(with_sender(front, sender), reading, incoming);
+    with_values(with_stage(known, stage), values)
+}
