@@ -11,12 +11,9 @@ use lib.ListN.{getD}
 use Rattle.settings.specs.Names.{Verb, Write, Read, Other, Settings, Connection, Id, Undefined, Takes, Count, Fault}
 use Rattle.settings.specs.Names.takes
 use Rattle.settings.specs.Names.fault
+use Rattle.laws.proofs.Both.{both}
 use Rattle.settings.specs.Table.{row, ids, seek, idOf, takenBy}
 use Rattle.settings.specs.Command.{checked, fitting, ranged, faultIn, faultOf, numberOf, succeeded, refused, answered, commanded}
-
-pub both : (a b : Bool) → (a && b) ≡ true → (a ≡ true) × (b ≡ true)
-both true b e = (refl, e)
-both false b e = absurd (false≢true e)
 
 -- the id takes n parameters, n is the number field, and the values are in their range
 pub record Accepted (t : Takes) (v : Verb) (id : Id) (fields : List ℕ) : Type 0 where

@@ -16,7 +16,8 @@ use Rattle.settings.specs.Names.fault
 use Rattle.settings.specs.Table.{between, isSpeed, allCodes, early, padded, opens, soundString, idOf, soundConnection}
 use Rattle.settings.specs.Command.{faultOf, numberOf, bit, obey, connectionNumbers, reading, kept, outcome, answered, commanded}
 use Rattle.settings.specs.Laws.{answerOf, Sound, Sendable, Short}
-use Rattle.settings.proofs.Accept.{both, accepted}
+use Rattle.settings.proofs.Accept.{accepted}
+use Rattle.laws.proofs.Both.{both}
 use Rattle.settings.proofs.Written.{answer-outcome, defined, parts, obey-sound}
 
 -- How long a message is.

@@ -15,7 +15,8 @@ use Rattle.settings.specs.Names.fault
 use Rattle.settings.specs.Table.{between, inRange, row, idOf, takenBy, isOn, factory, soundString, soundSettings}
 use Rattle.settings.specs.Command.{faultOf, kept, store, obey, bit, reading, outcome, answered, commanded}
 use Rattle.settings.specs.Laws.{answerOf, readBy, Sound}
-use Rattle.settings.proofs.Accept.{both, Accepted, accepted, success, found}
+use Rattle.laws.proofs.Both.{both}
+use Rattle.settings.proofs.Accept.{Accepted, accepted, success, found}
 
 -- the answer of an outcome is the list that it was made of
 pub answer-outcome : (t : Stored) (ns : List ℕ) → answerOf (outcome t ns) ≡ ns
