@@ -14,8 +14,9 @@
  * order lent. They are written with every answer, and all 0 with answer 3. Of a lent buffer only that many bytes at its front are
  * written; the others keep what they held.
  *
- * One byte makes at most 16 codes for the line and at most 36 bytes for the host (a line code makes at most one byte for the host or
- * one for the TU), so the smallest useful buffers are LINEBOX_LINE_LEAST and LINEBOX_HOST_LEAST: with these, answer 1 is never final.
+ * One byte makes at most 16 codes for the line and 36 bytes for the host, so the smallest useful buffers are 16 and 36 bytes
+ * (LINEBOX_LINE_LEAST and LINEBOX_HOST_LEAST): with these the next byte always fits an empty buffer. A line code makes at most one
+ * byte, for the host or for the TU.
  *
  * What may not overlap: the state, done (or at) and the lent buffers are written, and each of them shares no byte with any other
  * argument. Inputs are only read.

@@ -4,7 +4,7 @@ use mathlib.Core.Bool.{Bool, true, false, cond, _&&_}
 use mathlib.Core.List.{List, [], _∷_, _++_}
 use lib.Dec.{eqb}
 use lib.ListN.{getD, set, replicate}
-use Rattle.spelling.specs.Names.{Case, Letters, Figures, Verb, Write, Read, Other, Form, Empty, Digits, Ex, Stage, Text, Swallow, Held, Begun, Lettered, Typed, Fields, Discard, Reader, Settings, Connection, Mode1, Mode4, Mode10, Mode11, Known, Is, Column, At, Last, Shift, Record, Sender, State, Loaded}
+use Rattle.spelling.specs.Names.{Case, Letters, Figures, Verb, Write, Read, Other, Form, Empty, Digits, Ex, Stage, Text, Swallow, Held, Begun, Lettered, Typed, Fields, Discard, Reader, Settings, Connection, Mode1, Mode4, Mode10, Mode11, Known, Is, Column, At, Last, Shift, Sender, State, Loaded}
 use Rattle.spelling.specs.Names.known
 use Rattle.spelling.specs.Names.column
 use Rattle.spelling.specs.Names.last
@@ -122,7 +122,7 @@ connectionOf mode port speed = cond (eqb mode 1) (Mode1 port speed) (cond (eqb m
 abbrev pub senderOf : List ℕ → Sender
 senderOf b = record { held = record { case = knownOf (getD b 17 0); column = columnOf (getD b 18 0) (getD b 19 0) }; last = lastOf (getD b 20 0) }
 
--- the stages in which no command is being read, and the discarding one
+-- the stages that the first byte alone tells
 abbrev pub plainStage : ℕ → Stage
 plainStage n = cond (eqb n 0) Text (cond (eqb n 1) Swallow (cond (eqb n 2) Held (cond (eqb n 3) Begun Discard)))
 

@@ -1,6 +1,5 @@
 // What 128 bytes spell: each field from its offset, and the test that they are that state's spelling to the last byte.
 ghost use mathlib.Core.Path.{_≡_};
-ghost use lib.ListN.{getD};
 ghost use Rattle.spelling.specs.Spelling.{caseOf, columnOf, connectionOf, formOf, knownOf, lastOf, loaded, part, plainStage, readerOf, same, senderOf, settingsOf, stageOf, stateOf, verbOf};
 use crate::Loaded;
 use crate::save::save;
@@ -92,7 +91,7 @@ fn connection_of(mode: u8, port: u8, speed: u8) -> Connection
     }
 }
 
-// The stages of one byte alone.
+// The stages that the first byte alone tells.
 fn plain_stage(n: u8) -> Stage
     ensures { λ r. ⌜ r ≡ plainStage n ⌝ }
 {

@@ -1,7 +1,6 @@
 -- `spelling::load::connection_of` meets its contract.
 -- Assumes nothing.
 use borrow.Author.Tests.{ne-eqb}
-use borrow.Author.Needs.{needs}
 use Rattle.spelling.proofs.load.connection_of.Statement.{statement}
 use Rattle.spelling.proofs.load.connection_of.Tie as tie
 

@@ -1,7 +1,6 @@
 -- `spelling::load::plain_stage` meets its contract.
 -- Assumes nothing.
 use borrow.Author.Tests.{ne-eqb}
-use borrow.Author.Needs.{needs}
 use Rattle.spelling.proofs.load.plain_stage.Statement.{statement}
 use Rattle.spelling.proofs.load.plain_stage.Tie as tie
 

@@ -1,7 +1,6 @@
 -- `spelling::load::verb_of` meets its contract.
 -- Assumes nothing.
 use borrow.Author.Tests.{ne-eqb}
-use borrow.Author.Needs.{needs}
 use Rattle.spelling.proofs.load.verb_of.Statement.{statement}
 use Rattle.spelling.proofs.load.verb_of.Tie as tie
 
