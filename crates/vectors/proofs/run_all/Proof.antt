@@ -12,11 +12,17 @@ Inv-loop s t₀ at₀ t at = at ≤ length s + 1
 abbrev μ-loop : tie.MeasureT-loop
 μ-loop s t₀ at₀ t at = length s + 1 - at
 
+fresh-requires : tie.Need-fresh-requires Inv-loop μ-loop
+fresh-requires c κs = search needs
+
+ready-requires : tie.Need-ready-requires Inv-loop μ-loop
+ready-requires c κs = search needs
+
 loop-holds : tie.Need-loop-holds Inv-loop μ-loop
 loop-holds c = search needs
 
-line-end-requires : tie.Need-line-end-requires Inv-loop μ-loop
-line-end-requires c κs = search needs
+find-requires : tie.Need-find-requires Inv-loop μ-loop
+find-requires c κs = search needs
 
 sub-tallied : tie.Need-sub-tallied Inv-loop μ-loop
 sub-tallied c = search needs
@@ -48,8 +54,10 @@ run-all-spec =
     (tie.spec
     Inv-loop
     μ-loop
+    fresh-requires
+    ready-requires
     loop-holds
-    line-end-requires
+    find-requires
     sub-tallied
     part-tallied-start
     part-tallied-end
