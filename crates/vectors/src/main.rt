@@ -1,11 +1,27 @@
 // Runs the firmware paper's tables, its commands and the traced lines, as standard input has them, and says where they differ.
-// A line is one entry of a table, one call of a box or a comment.
-ghost use Prim.Native.Nat.{_≤_, _<_};
+// A line is one entry of a table, a traced line or a comment. Traced lines and commands are each one call of a box that goes on
+// from line to line. After a bar come the fields, a bar after each: `N` a fresh box; `H` host bytes, and the line codes and host
+// bytes that come of them; `L` line codes, and host bytes and TU codes; `T` TU codes, line codes and nothing; `F` bytes, and the
+// message found in them. A call takes all of its input, unless one field more has its answer and the count taken. `R` has the
+// next call's two rooms and the count taken so far; `Z` puts a number into setting 50 behind the box's back.
+ghost use Prim.Native.Nat.{_≤_};
 ghost use lib.ListN.{length};
 use libc::STDOUT_FILENO;
+use linebox::Called;
+use linebox::Stream;
 use tables::Entry;
+use text::Form;
+use text::after_bar;
+use text::before_bar;
+use text::byte_at;
+use text::decode;
+use text::front;
 use traces::Bench;
+use traces::Ran;
 use traces::Verdict;
+use traces::judged;
+use traces::prepared;
+use traces::ready;
 
 mod tables;
 mod text;
@@ -17,6 +33,7 @@ struct Tally {
     differ: u64,
 }
 
+// What was run of each kind, and the box that the traces go on from.
 struct Tallies {
     ascii: Tally,
     ustty: Tally,
@@ -39,6 +56,124 @@ fn counted(t: Tally, same: bool, s: &[u8]) -> Tally {
     Tally {
         run,
         differ: std::num::wrapping_add_u64(t.differ, 1),
+    }
+}
+
+// Bytes are those that a text means.
+fn is_shown(form: Form, s: &[u8], text: &[u8]) -> bool {
+    let mut out = [0u8; 1024];
+    match form {
+        Form::Decimal => {
+            let n = sheet::spell(s, &mut out);
+            check::same(front(&out, n), text)
+        }
+        Form::Escaped => {
+            let n = decode(Form::Escaped, text, &mut out);
+            check::same(s, front(&out, n))
+        }
+    }
+}
+
+// Prints what a box gave.
+fn print_shown(form: Form, s: &[u8]) {
+    io::write_all(STDOUT_FILENO, b"gave:");
+    if let Form::Decimal = form {
+        let mut out = [0u8; 1024];
+        let n = sheet::spell(s, &mut out);
+        io::write_all(STDOUT_FILENO, front(&out, n));
+    } else {
+        io::write_all(STDOUT_FILENO, s);
+    }
+    io::write_all(STDOUT_FILENO, b"; ");
+}
+
+// A call's answer and the count it took are those of a text, or all that was left where the text is empty.
+fn is_ended(c: Called, left: usize, text: &[u8]) -> bool {
+    let answer = c.answer;
+    let number = traces::number_of(answer);
+    if text.len() == 0 {
+        return number == 0 && c.taken == left;
+    }
+    is_shown(Form::Decimal, &[number, (c.taken % 256) as u8], text)
+}
+
+// A call of a stream that lends the rooms asked for.
+fn call(t: Stream, b: Bench, input: &[u8], one: &mut [u8], two: &mut [u8]) -> Called
+    requires { ⌜ (255 ≤ length (now one)) × (255 ≤ length (now two)) ⌝ }
+{
+    let state = b.state;
+    let from = b.from as usize;
+    let first = b.first as usize;
+    let second = b.second as usize;
+    match t {
+        Stream::Host => linebox::calls::host(
+            state,
+            input,
+            from,
+            &mut one[0..first],
+            &mut two[0..second],
+        ),
+        Stream::Line => linebox::calls::line(
+            state,
+            input,
+            from,
+            &mut one[0..first],
+            &mut two[0..second],
+        ),
+        Stream::Tu => linebox::calls::tu(state, input, from, &mut one[0..first]),
+    }
+}
+
+// `H`, `L` or `T` with the input, the first output and the second: a call of that stream.
+fn run_call(t: Stream, b: Bench, s: &[u8]) -> Ran {
+    let given = after_bar(s);
+    let first = after_bar(given);
+    let second = after_bar(first);
+    let mut input = [0u8; 512];
+    let n = decode(traces::form_taken(t), before_bar(given), &mut input);
+    let whole = front(&input, n);
+    let mut one = [0u8; 255];
+    let mut two = [0u8; 255];
+    let r = call(t, b, whole, &mut one, &mut two);
+    let left = linebox::calls::rest(whole, b.from as usize).len();
+    let sent = front(&one, r.first);
+    let told = front(&two, r.second);
+    let same = is_ended(r, left, before_bar(after_bar(second)))
+        && is_shown(traces::form_first(t), sent, before_bar(first))
+        && is_shown(traces::form_taken(t), told, before_bar(second));
+    if !same {
+        print_shown(traces::form_first(t), sent);
+        print_shown(traces::form_taken(t), told);
+    }
+    let next = r.state;
+    judged(same, next)
+}
+
+// `F|bytes|message|`: the finder.
+fn run_find(b: Bench, s: &[u8]) -> Ran {
+    let given = after_bar(s);
+    let mut input = [0u8; 512];
+    let n = decode(Form::Escaped, before_bar(given), &mut input);
+    let found = message::find(front(&input, n));
+    let same = is_shown(Form::Escaped, found, before_bar(after_bar(given)));
+    if !same {
+        print_shown(Form::Escaped, found);
+    }
+    let state = b.state;
+    judged(same, state)
+}
+
+// One traced line.
+fn run_trace(b: Bench, s: &[u8]) -> Ran {
+    match byte_at(s, 0) {
+        b'H' => run_call(Stream::Host, b, s),
+        b'L' => run_call(Stream::Line, b, s),
+        b'T' => run_call(Stream::Tu, b, s),
+        b'F' => run_find(b, s),
+        b'N' => prepared(ready(linebox::soundness::fresh())),
+        b'R' => prepared(traces::lending(b, s)),
+        b'Z' => prepared(traces::limited(b, s)),
+        _ => prepared(b),
     }
 }
 
@@ -71,7 +206,7 @@ fn tallied(t: Tallies, s: &[u8]) -> Tallies {
             bench,
         },
         Entry::Other => {
-            let r = traces::run_trace(bench, s);
+            let r = run_trace(bench, s);
             let verdict = r.verdict;
             let next = r.bench;
             Tallies {
@@ -91,7 +226,7 @@ fn run_all(s: &[u8]) -> Tallies {
         ascii: none,
         ustty: none,
         traces: none,
-        bench: traces::ready(linebox::soundness::fresh()),
+        bench: ready(linebox::soundness::fresh()),
     };
     let mut at = 0;
     while at < s.len() {

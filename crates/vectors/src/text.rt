@@ -1,131 +1,158 @@
 // The text of a vector: fields with a bar after each, bytes with escapes, and numbers.
-ghost use Prim.Native.Nat.{_≤_, _<_};
-ghost use lib.ListN.{length};
+ghost use mathlib.Core.Path.{_≡_};
+ghost use Prim.Native.Nat.{_+_, _*_, _%_, _≤_, _<_};
+ghost use lib.ListN.{length, getD, take};
+ghost use Rattle.laws.specs.Written.{fronted};
+ghost use Rattle.vectors.specs.Text.{beforeBar, afterBar, digit, hex, escaped, decimal, firstPiece, decoded};
 
-// The value of a hexadecimal digit, 0 where it is none.
-fn digit(x: u8) -> u8
-    ensures { λ r. ⌜ r < 16 ⌝ }
-{
-    match x {
-        b'0'..=b'9' => x - b'0',
-        b'A'..=b'F' => x - b'A' + 10,
-        _ => 0,
-    }
+// How bytes are spelled: each as itself or by an escape, or each in decimal after a space.
+pub enum Form {
+    Escaped,
+    Decimal,
+}
+
+// A byte that a text begins with, and how many bytes it is spelled with.
+pub struct Piece {
+    pub byte: u8,
+    pub width: usize,
 }
 
 // The byte at a place, 0 past the end.
-pub fn byte_at(s: &[u8], at: usize) -> u8 {
+pub fn byte_at(s: &[u8], at: usize) -> u8
+    ensures { λ r. ⌜ r ≡ getD (now (s .entry)) at 0 ⌝ }
+{
     if at < s.len() { s[at] } else { 0 }
 }
 
-// The value of the two hexadecimal digits at a place.
-pub fn hex_at(s: &[u8], at: usize) -> u8
-    requires { ⌜ at < 100000 ⌝ }
+// The value of a hexadecimal digit, 0 where it is none.
+fn digit(x: u8) -> u8
+    ensures { λ r. ⌜ (r < 16) × (r ≡ digit x) ⌝ }
 {
-    digit(byte_at(s, at)) * 16 + digit(byte_at(s, at + 1))
+    if x < 48 {
+        return 0;
+    }
+    if x < 58 {
+        return x - 48;
+    }
+    if x < 65 {
+        return 0;
+    }
+    if x < 71 { x - 55 } else { 0 }
+}
+
+// The value of two hexadecimal digits.
+pub fn hex(high: u8, low: u8) -> u8
+    ensures { λ r. ⌜ r ≡ hex high low ⌝ }
+{
+    digit(high) * 16 + digit(low)
 }
 
 // The first n bytes, or all where there are fewer.
 pub fn front(s: &[u8], n: usize) -> &[u8]
-    ensures { λ r. ⌜ length (now r) ≤ length (now (s .entry)) ⌝ }
+    ensures { λ r. ⌜ now r ≡ take n (now (s .entry)) ⌝ }
 {
     if n <= s.len() { &s[0..n] } else { s }
 }
 
 // What stands before the first bar, or all where there is none.
-pub fn before_bar(s: &[u8]) -> &[u8] {
+pub fn before_bar(s: &[u8]) -> &[u8]
+    ensures { λ r. ⌜ now r ≡ beforeBar (now (s .entry)) ⌝ }
+{
     let n = s.len();
     let at = bytes::scan::find(s, 0, n, b'|');
     &s[0..at]
 }
 
 // What stands after the first bar, or nothing where there is none.
-pub fn after_bar(s: &[u8]) -> &[u8] {
+pub fn after_bar(s: &[u8]) -> &[u8]
+    ensures { λ r. ⌜ now r ≡ afterBar (now (s .entry)) ⌝ }
+{
     let n = s.len();
     let at = bytes::scan::find(s, 0, n, b'|');
     if at < n { &s[at + 1..n] } else { &s[0..0] }
 }
 
-// How bytes are spelled: each as itself or by an escape, or each in decimal after a space.
-enum Form {
-    Escaped,
-    Decimal,
-}
-
-// How many digits, one to three, the number after the first space has.
-fn digits(s: &[u8]) -> usize
-    ensures { λ r. ⌜ (1 ≤ r) × (r ≤ 3) ⌝ }
+// The last eight bits of a number of three digits.
+fn three(a: u8, b: u8, c: u8) -> u8
+    requires { ⌜ (a < 16) × (b < 16) × (c < 16) ⌝ }
+    ensures { λ r. ⌜ r ≡ (a * 100 + b * 10 + c) % 256 ⌝ }
 {
-    if byte_at(s, 2) < b'0' {
-        1
-    } else if byte_at(s, 3) < b'0' {
-        2
-    } else {
-        3
-    }
+    let n = a as u32 * 100 + b as u32 * 10 + c as u32;
+    (n % 256) as u8
 }
 
-// How many bytes the first byte is spelled with: `\xNN` is four, any other escape two.
-fn width(form: Form, s: &[u8]) -> usize
-    ensures { λ r. ⌜ (1 ≤ r) × (r ≤ 4) ⌝ }
+// The number after the first space, of one to three digits.
+fn decimal(s: &[u8]) -> Piece
+    ensures { λ r. ⌜ (1 ≤ r .width) × (r .width ≤ 4) × (r ≡ decimal (now (s .entry))) ⌝ }
 {
-    if let Form::Decimal = form {
-        return 1 + digits(s);
+    let x = byte_at(s, 1);
+    let y = byte_at(s, 2);
+    let z = byte_at(s, 3);
+    if y < 48 {
+        return Piece {
+            byte: digit(x),
+            width: 2,
+        };
     }
-    if byte_at(s, 0) != b'\\' {
-        1
-    } else if byte_at(s, 1) == b'x' {
-        4
-    } else {
-        2
+    if z < 48 {
+        return Piece {
+            byte: digit(x) * 10 + digit(y),
+            width: 3,
+        };
     }
-}
-
-// The number after the first space.
-fn number(s: &[u8]) -> u8 {
-    let a = digit(byte_at(s, 1));
-    let b = digit(byte_at(s, 2));
-    match digits(s) {
-        1 => a,
-        2 => a * 10 + b,
-        _ => ((a as u32 * 100 + b as u32 * 10 + digit(byte_at(s, 3)) as u32) % 256) as u8,
+    Piece {
+        byte: three(digit(x), digit(y), digit(z)),
+        width: 4,
     }
 }
 
 // The first byte: `\r` is CR, `\n` is LF, `\xNN` is the value of two digits, any other escape is the byte itself.
-fn value(form: Form, s: &[u8]) -> u8 {
-    if let Form::Decimal = form {
-        return number(s);
+fn escaped(s: &[u8]) -> Piece
+    ensures { λ r. ⌜ (1 ≤ r .width) × (r .width ≤ 4) × (r ≡ escaped (now (s .entry))) ⌝ }
+{
+    if byte_at(s, 0) != 92 {
+        return Piece {
+            byte: byte_at(s, 0),
+            width: 1,
+        };
     }
-    if byte_at(s, 0) != b'\\' {
-        return byte_at(s, 0);
+    let x = byte_at(s, 1);
+    if x == 114 {
+        return Piece { byte: 13, width: 2 };
     }
-    match byte_at(s, 1) {
-        b'r' => b'\r',
-        b'n' => b'\n',
-        b'x' => hex_at(s, 2),
-        x => x,
+    if x == 110 {
+        return Piece { byte: 10, width: 2 };
+    }
+    if x == 120 {
+        return Piece {
+            byte: hex(byte_at(s, 2), byte_at(s, 3)),
+            width: 4,
+        };
+    }
+    Piece { byte: x, width: 2 }
+}
+
+// The first byte in a form.
+fn first_piece(form: Form, s: &[u8]) -> Piece
+    ensures { λ r. ⌜ (1 ≤ r .width) × (r .width ≤ 4) × (r ≡ firstPiece form (now (s .entry))) ⌝ }
+{
+    match form {
+        Form::Escaped => escaped(s),
+        Form::Decimal => decimal(s),
     }
 }
 
 // The bytes that a text spells, at the front of a buffer, as many as have room; and how many they are.
-fn put_all(form: Form, s: &[u8], out: &mut [u8]) -> usize {
+pub fn decode(form: Form, s: &[u8], out: &mut [u8]) -> usize
+    ensures { λ r. ⌜ (r ≡ length (decoded form (now (s .entry)) (length (now (out .entry))))) × (now (out .exit) ≡ fronted (now (out .entry)) (decoded form (now (s .entry)) (length (now (out .entry))))) ⌝ }
+{
     let mut i = 0;
     let mut k = 0;
     while i < s.len() && k < out.len() {
-        out[k] = value(form, &s[i..]);
+        let p = first_piece(form, &s[i..]);
+        out[k] = p.byte;
         k += 1;
-        i += width(form, &s[i..]);
+        i += p.width;
     }
     k
-}
-
-// The bytes of a text with escapes, at the front of a buffer, as many as have room; and how many they are.
-pub fn unescape(s: &[u8], out: &mut [u8]) -> usize {
-    put_all(Form::Escaped, s, out)
-}
-
-// The numbers of a text, at the front of a buffer, as many as have room; and how many they are.
-pub fn numbers(s: &[u8], out: &mut [u8]) -> usize {
-    put_all(Form::Decimal, s, out)
 }

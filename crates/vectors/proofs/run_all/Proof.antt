@@ -1,6 +1,6 @@
 -- `vectors::run_all` meets its contract. The invariant: the place is at most one past the end of the text.
 -- Assumes nothing.
-use Prim.Native.Nat.{_≤_, _<_, _+_, _-_}
+use Prim.Native.Nat.{_≤_, _+_, _-_}
 use lib.ListN.{length}
 use borrow.Author.Needs.{needs}
 use Rattle.vectors.proofs.run_all.Statement.{statement}

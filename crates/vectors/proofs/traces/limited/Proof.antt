@@ -1,0 +1,48 @@
+-- `vectors::traces::limited` meets its contract: the one place is the number of the first field.
+-- Assumes nothing.
+use denote.Ref.{now}
+use Rattle.vectors.proofs.Fields.{in-field}
+use borrow.Author.Needs.{needs}
+use Rattle.vectors.proofs.traces.limited.Statement.{statement}
+use Rattle.vectors.proofs.traces.limited.Tie as tie
+
+after-bar-requires : tie.Need-after-bar-requires
+after-bar-requires c κs = search needs
+
+before-bar-requires : tie.Need-before-bar-requires
+before-bar-requires c κs = search needs
+
+slice-aggregate-decode : tie.Need-slice-aggregate-decode
+slice-aggregate-decode c = search needs
+
+decode-requires : tie.Need-decode-requires
+decode-requires c κs = search needs
+
+array-read-with-limit : tie.Need-array-read-with-limit
+array-read-with-limit c = search needs
+
+with-limit-requires : tie.Need-with-limit-requires
+with-limit-requires c κs = search needs
+
+with-settings-requires : tie.Need-with-settings-requires
+with-settings-requires c κs = search needs
+
+ready-requires : tie.Need-ready-requires
+ready-requires c κs = search needs
+
+returns : tie.Need-returns
+returns c = rw (c .ready .ensures, c .before .with-settings .ensures, c .before .before .with-limit .ensures, in-field 1 (now (c .before .before .before .before .before .before .before .before .before .before .before .args .s)) _ _ _ (c .before .before .before .before .before .before .before .before .before .after-bar .ensures) (c .before .before .before .before .before .before .before .before .before-bar .ensures) (c .before .before .before .before .before .before .decode .ensures .1))
+
+pub limited-spec : {M : Type 1} → statement M
+limited-spec =
+    tie.close
+    (tie.spec
+    after-bar-requires
+    before-bar-requires
+    slice-aggregate-decode
+    decode-requires
+    array-read-with-limit
+    with-limit-requires
+    with-settings-requires
+    ready-requires
+    returns)

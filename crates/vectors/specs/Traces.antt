@@ -1,0 +1,70 @@
+-- What the traced lines put on the bench.
+use Prim.Native.Nat.{ℕ}
+use mathlib.Core.Bool.{Bool, true, false}
+use mathlib.Core.List.{List}
+use lib.ListN.{getD, replicate}
+use Rattle.laws.specs.Written.{fronted}
+use Rattle.settings.specs.declared.Settings.{Settings}
+use Rattle.linebox.specs.declared.State.{State}
+use Rattle.linebox.specs.declared.Stream.{Stream}
+use Rattle.linebox.specs.declared.Stream.the-variants.{Host, Line, Tu}
+use Rattle.linebox.specs.declared.Answer.{Answer}
+use Rattle.linebox.specs.declared.Answer.the-variants.{All, NoRoom, NoCode, Unsound}
+use Rattle.vectors.specs.declared.text.Form.{Form}
+use Rattle.vectors.specs.declared.text.Form.the-variants.{Escaped, Decimal}
+use Rattle.vectors.specs.declared.traces.Bench.{Bench}
+use Rattle.vectors.specs.declared.traces.Ran.{Ran}
+use Rattle.vectors.specs.declared.traces.Verdict.the-variants.{Other, Same, Differs}
+use Rattle.vectors.specs.Text.{beforeBar, afterBar, decoded}
+
+-- a box with ample room
+abbrev pub ready : State → Bench
+ready state = record { state = state; first = 255; second = 255; from = 0 }
+
+-- the box after a vector that is as expected, or differs
+abbrev pub judged : Bool → State → Ran
+judged true state = record { verdict = Same; bench = ready state }
+judged false state = record { verdict = Differs; bench = ready state }
+
+-- a line that is no vector
+abbrev pub prepared : Bench → Ran
+prepared b = record { verdict = Other; bench = b }
+
+-- the paper's number of an answer
+abbrev pub numberOf : Answer → ℕ
+numberOf All = 0
+numberOf NoRoom = 1
+numberOf NoCode = 2
+numberOf Unsound = 3
+
+-- what a stream takes, and its call's second buffer: host bytes, or codes
+abbrev pub formTaken : Stream → Form
+formTaken Host = Escaped
+formTaken Line = Decimal
+formTaken Tu = Decimal
+
+-- its call's first buffer
+abbrev pub formFirst : Stream → Form
+formFirst Host = Decimal
+formFirst Line = Escaped
+formFirst Tu = Decimal
+
+-- the numbers of a line's first field, in so many places
+abbrev pub numbersIn : ℕ → List ℕ → List ℕ
+numbersIn n s = fronted (replicate n 0) (decoded Decimal (beforeBar (afterBar s)) n)
+
+-- the next call lends these rooms and starts from this count
+abbrev pub lending : Bench → List ℕ → Bench
+lending b s = record { state = b .state; first = getD (numbersIn 3 s) 0 0; second = getD (numbersIn 3 s) 1 0; from = getD (numbersIn 3 s) 2 0 }
+
+-- the settings with another limit
+abbrev pub withLimit : Settings → ℕ → Settings
+withLimit x n = record { endings = x .endings; limit = n; onspace = x .onspace; onreturn = x .onreturn; filter = x .filter; reports = x .reports; string = x .string }
+
+-- the state with other settings
+abbrev pub withSettings : State → Settings → State
+withSettings s x = record { settings = x; connection = s .connection; sender = s .sender; reading = s .reading; incoming = s .incoming; reader = s .reader }
+
+-- the box with that number in setting 50, sound or not
+abbrev pub limited : Bench → List ℕ → Bench
+limited b s = ready (withSettings (b .state) (withLimit (b .state .settings) (getD (numbersIn 1 s) 0 0)))
