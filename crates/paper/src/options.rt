@@ -1,6 +1,8 @@
-// The arguments: the printer's stop and on what it unshifts, and what is known of it at the start.
+// What the arguments say: the printer's stop and on what it unshifts, and what is known of it at the start.
+ghost use mathlib.Core.Path.{_≡_};
+ghost use Rattle.words.specs.Arguments.{settingOf};
+ghost use Rattle.paper.specs.Options.{start, withCase, withSpot, withStop, withSpace, withReturn, refused, told};
 use code::Case;
-use libc::STDOUT_FILENO;
 use stop::Known;
 use stop::Spot;
 use words::Setting;
@@ -16,8 +18,24 @@ pub struct Options {
     pub good: bool,
 }
 
+// The options where no argument says otherwise.
+pub fn start() -> Options
+    ensures { λ r. ⌜ r ≡ start ⌝ }
+{
+    Options {
+        case: Known::Unknown,
+        spot: Spot::From(0),
+        stop: 72,
+        onspace: false,
+        onreturn: false,
+        good: true,
+    }
+}
+
 // The options with another case.
-fn with_case(o: Options, case: Known) -> Options {
+fn with_case(o: Options, case: Known) -> Options
+    ensures { λ r. ⌜ r ≡ withCase o case ⌝ }
+{
     let spot = o.spot;
     Options {
         case,
@@ -25,12 +43,14 @@ fn with_case(o: Options, case: Known) -> Options {
         stop: o.stop,
         onspace: o.onspace,
         onreturn: o.onreturn,
-        good: true,
+        good: o.good,
     }
 }
 
 // The options with another place.
-fn with_spot(o: Options, spot: Spot) -> Options {
+fn with_spot(o: Options, spot: Spot) -> Options
+    ensures { λ r. ⌜ r ≡ withSpot o spot ⌝ }
+{
     let case = o.case;
     Options {
         case,
@@ -38,41 +58,51 @@ fn with_spot(o: Options, spot: Spot) -> Options {
         stop: o.stop,
         onspace: o.onspace,
         onreturn: o.onreturn,
-        good: true,
+        good: o.good,
     }
 }
 
-// The options, not good.
-fn refused(o: Options) -> Options {
+// The options of a printer with this stop.
+fn with_stop(o: Options, n: u8) -> Options
+    ensures { λ r. ⌜ r ≡ withStop o n ⌝ }
+{
     let mut next = o;
-    next.good = false;
+    next.stop = n;
     next
 }
 
 // The options of a printer that unshifts on a space, or not.
-fn with_space(o: Options, on: bool) -> Options {
+fn with_space(o: Options, on: bool) -> Options
+    ensures { λ r. ⌜ r ≡ withSpace o on ⌝ }
+{
     let mut next = o;
     next.onspace = on;
     next
 }
 
 // The options of a printer that unshifts on a return, or not.
-fn with_return(o: Options, on: bool) -> Options {
+fn with_return(o: Options, on: bool) -> Options
+    ensures { λ r. ⌜ r ≡ withReturn o on ⌝ }
+{
     let mut next = o;
     next.onreturn = on;
     next
 }
 
-// The options of a printer with this stop.
-fn with_stop(o: Options, n: u8) -> Options {
+// The options, not good.
+pub fn refused(o: Options) -> Options
+    ensures { λ r. ⌜ r ≡ refused o ⌝ }
+{
     let mut next = o;
-    next.stop = n;
+    next.good = false;
     next
 }
 
-// The options with one argument more.
-fn with_argument(o: Options, s: &[u8]) -> Options {
-    match arguments::setting(s) {
+// The options with what one argument more says.
+fn told(o: Options, x: Setting) -> Options
+    ensures { λ r. ⌜ r ≡ told o x ⌝ }
+{
+    match x {
         Setting::Stop(n) => with_stop(o, n),
         Setting::Place(n) => with_spot(o, Spot::At(n)),
         Setting::PlaceUnknown => with_spot(o, Spot::From(0)),
@@ -87,62 +117,9 @@ fn with_argument(o: Options, s: &[u8]) -> Options {
     }
 }
 
-// Says which argument is none, and what there is.
-fn print_bad_argument(i: usize, s: &[u8]) {
-    io::write_all(STDOUT_FILENO, b"paper: argument ");
-    io::print_decimal(STDOUT_FILENO, i as u64);
-    io::write_all(STDOUT_FILENO, b", `");
-    io::write_all(STDOUT_FILENO, s);
-    io::write_all(
-        STDOUT_FILENO,
-        b"`, is none of these:\n  stop=N  (72) the right stop, 0 to 255: how many places stand before it\n",
-    );
-    io::write_all(
-        STDOUT_FILENO,
-        b"  space=unshifts or space=keeps  (keeps)\n  return=unshifts or return=keeps  (keeps)\n",
-    );
-    io::write_all(
-        STDOUT_FILENO,
-        b"  case=letters, case=figures or case=unknown  (unknown) at the start\n",
-    );
-    io::write_all(
-        STDOUT_FILENO,
-        b"  place=N or place=unknown  (unknown) at the start, 0 to 255\n",
-    );
-}
-
-// The options after the argument of this number.
-fn read_one(o: Options, i: usize) -> Options {
-    let mut buf = [0u8; 64];
-    let n = os::arg(i, &mut buf);
-    if os::errno() != 0 {
-        print_bad_argument(i, &buf);
-        return refused(o);
-    }
-    let next = with_argument(o, &buf[..n]);
-    if !next.good {
-        print_bad_argument(i, &buf[..n]);
-    }
-    next
-}
-
-// What all arguments say, up to one that is none.
-pub fn read() -> Options {
-    let mut o = Options {
-        case: Known::Unknown,
-        spot: Spot::From(0),
-        stop: 72,
-        onspace: false,
-        onreturn: false,
-        good: true,
-    };
-    let count = os::arg_count();
-    let mut i = 1;
-    while i < count {
-        if o.good {
-            o = read_one(o, i);
-        }
-        i += 1;
-    }
-    o
+// The options with one argument more; not good where it is none.
+pub fn with_argument(o: Options, s: &[u8]) -> Options
+    ensures { λ r. ⌜ r ≡ told o (settingOf (now (s .entry))) ⌝ }
+{
+    told(o, arguments::setting(s))
 }

@@ -1,6 +1,5 @@
 -- `paper::take_all` is safe and ends. The measure is how many turns are left.
 -- Assumes nothing.
-use Prim.Native.Nat.{_-_}
 use borrow.Author.Needs.{needs}
 use Rattle.paper.proofs.take_all.Statement.{statement}
 use Rattle.paper.proofs.take_all.Tie as tie

@@ -1,0 +1,3 @@
+pub mod Options
+pub mod Show
+pub mod Reading
