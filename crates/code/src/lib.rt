@@ -3,7 +3,7 @@
 ghost use mathlib.Core.Path.{_≡_};
 ghost use Prim.Native.Nat.{_<_};
 ghost use Rattle.code.specs.Rows.{placeOf, rowAt};
-ghost use Rattle.code.specs.Kinds.{kindAlike, kindOf, shift, strikes, moves};
+ghost use Rattle.code.specs.Kinds.{kindOf, shift, strikes, moves};
 
 // The case that a printer is in.
 pub enum Case {
@@ -122,35 +122,27 @@ pub fn row_at(case: Case, c: u8) -> u8
     }
 }
 
-// The kind of a code that has one character in both rows.
-fn kind_alike(x: u8) -> Kind
-    ensures { λ r. ⌜ r ≡ kindAlike x ⌝ }
-{
-    if x == b' ' {
-        return Kind::Space;
-    }
-    if x == 13 {
-        return Kind::Return;
-    }
-    if x == 14 {
-        return Kind::Shift(Case::Figures);
-    }
-    if x == 15 {
-        return Kind::Shift(Case::Letters);
-    }
-    Kind::Still
-}
-
-// The kind of a code; over 31 it is as BLANK.
+// The kind of a code; over 31 it is as BLANK. 4 is space, 8 is CR, 27 is FIGS, 31 is LTRS, 0 is BLANK and 2 is LF; 5 is S and
+// BELL.
 pub fn kind_of(c: u8) -> Kind
     ensures { λ r. ⌜ r ≡ kindOf c ⌝ }
 {
-    let x = row_at(Case::Letters, c);
-    let y = row_at(Case::Figures, c);
-    if x == y {
-        return kind_alike(x);
+    if c == 4 {
+        return Kind::Space;
     }
-    Kind::Char(y == 7)
+    if c == 8 {
+        return Kind::Return;
+    }
+    if c == 27 {
+        return Kind::Shift(Case::Figures);
+    }
+    if c == 31 {
+        return Kind::Shift(Case::Letters);
+    }
+    if c == 0 || c == 2 || 31 < c {
+        return Kind::Still;
+    }
+    Kind::Char(c == 5)
 }
 
 // The code that puts a printer into a case.

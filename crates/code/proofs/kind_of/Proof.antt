@@ -1,40 +1,81 @@
--- `code::kind_of` meets its contract: the two characters that it reads are those that `kindOf` compares.
+-- `code::kind_of` meets its contract: six codes have their kinds by computation, over 31 there is no character, and one test over
+-- the other codes below 32 shows that each depends on case and that BELL is 5's.
 -- Assumes nothing.
-use mathlib.Core.Path.{_≡_, _∙_}
-use Prim.Native.Nat.{ℕ}
-use lib.Dec.{eqb}
-use borrow.Author.Tests.{eq-eqb, ne-eqb}
-use borrow.Author.Needs.{needs}
+use mathlib.Core.Path.{_≡_, refl}
+use mathlib.Core.Bool.{Bool, true, false, not, cond, _||_}
+use mathlib.Core.Logic.{⊎-elim}
+use Prim.Native.Nat.{ℕ, _<_}
+use native.Mathlib.Omega.{arith}
+use borrow.Author.Tests.{ne-eqb, eqb-true, ltb-true, ltb-false}
+use lib.Dec.{T, eqb}
+use Rattle.laws.proofs.Table.{upto, below}
 use Rattle.code.specs.declared.Case.the-variants.{Letters, Figures}
-use Rattle.code.specs.declared.Kind.the-variants.{Char}
+use Rattle.code.specs.declared.Kind.{Kind}
+use Rattle.code.specs.declared.Kind.the-variants.{Still, Space, Return, Shift, Char}
 use Rattle.code.specs.Rows.{rowAt}
-use Rattle.code.specs.Kinds.{kindAlike, kindOf}
+use Rattle.code.specs.Kinds.{kindOf}
+use Rattle.code.proofs.Laws.{no-code}
+use Rattle.code.proofs.Values.{six}
 use Rattle.code.proofs.kind_of.Statement.{statement}
 use Rattle.code.proofs.kind_of.Tie as tie
 
-alike-kind : (x y c : ℕ) → x ≡ rowAt Letters c → y ≡ rowAt Figures c → x ≡ y → kindAlike x ≡ kindOf c
+abbrev charred : Bool → Kind → Bool
+charred b Still = false
+charred b Space = false
+charred b Return = false
+charred b (Shift to) = false
+charred b (Char bell) = cond b bell (not bell)
+
+is-char : (b : Bool) (k : Kind) → T (charred b k) → Char b ≡ k
+is-char true (Char true) t = refl
+is-char false (Char false) t = refl
+
+others : ℕ → Bool
+others c = six c || charred (eqb c 5) (kindOf c)
+
+all-others : T (upto others 32)
+unfolding others kindOf rowAt
+all-others = tt
+
+other : (c : ℕ) → c < 32 → six c ≡ false → Char (eqb c 5) ≡ kindOf c
+unfolding others
+other c l h = is-char (eqb c 5) (kindOf c) (rw h at (below others 32 all-others c l))
+
+none : (c : ℕ) → 31 < c → Still ≡ kindOf c
 unfolding kindOf
-alike-kind x y c p q h = rw (← p, ← q, eq-eqb x y h)
-
-apart-kind : (x y c : ℕ) → x ≡ rowAt Letters c → y ≡ rowAt Figures c → (x ≡ y → ⊥) → Char (eqb y 7) ≡ kindOf c
-unfolding kindOf
-apart-kind x y c p q h = rw (← p, ← q, ne-eqb x y h)
-
-row-at-requires : tie.Need-row-at-requires
-row-at-requires c κs = search needs
-
-row-at-requires-2 : tie.Need-row-at-requires-2
-row-at-requires-2 c κs = search needs
-
-kind-alike-requires : tie.Need-kind-alike-requires
-kind-alike-requires c κs = search needs
+none c h = rw (no-code Letters c h, no-code Figures c h)
 
 returns : tie.Need-returns
-returns c = c .kind-alike .ensures ∙ alike-kind _ _ (c .before .before .before .before .args .c) (c .before .before .before .row-at .ensures) (c .before .before .row-at2 .ensures) (c .before .if1 .taken)
+unfolding kindOf rowAt
+returns c = rw (c .if1 .taken)
 
 returns-2 : tie.Need-returns-2
-returns-2 c = apart-kind _ _ (c .before .before .before .args .c) (c .before .before .row-at .ensures) (c .before .row-at2 .ensures) (c .if1 .left)
+unfolding kindOf rowAt
+returns-2 c = rw (c .if2 .taken)
+
+returns-3 : tie.Need-returns-3
+unfolding kindOf rowAt
+returns-3 c = rw (c .if3 .taken)
+
+returns-4 : tie.Need-returns-4
+unfolding kindOf rowAt
+returns-4 c = rw (c .if4 .taken)
+
+returns-5 : tie.Need-returns-5
+unfolding kindOf rowAt
+returns-5 c =
+    let n = c .before .before .before .before .before .args .c in
+    ⊎-elim
+    (λ w. rw (w .taken))
+    (⊎-elim (λ w. rw (eqb-true n 2 (w .1 .taken))) (λ w. none n (ltb-true 31 n (w .2 .taken))))
+    (c .if5 .came)
+
+returns-6 : tie.Need-returns-6
+returns-6 c =
+    let n = c .before .before .before .before .before .before .before .args .c in
+    let l : n < 32 = omega (arith, ltb-false 31 n (c .if7 .left)) in
+    other n l
+    (simp (ne-eqb n 0 (c .before .before .if5 .left), c .before .if6 .left, ne-eqb n 4 (c .before .before .before .before .before .before .if1 .left), ne-eqb n 8 (c .before .before .before .before .before .if2 .left), ne-eqb n 27 (c .before .before .before .before .if3 .left), ne-eqb n 31 (c .before .before .before .if4 .left)))
 
 pub kind-of-spec : {M : Type 1} → statement M
-kind-of-spec =
-    tie.close (tie.spec row-at-requires row-at-requires-2 kind-alike-requires returns returns-2)
+kind-of-spec = tie.close (tie.spec returns returns-2 returns-3 returns-4 returns-5 returns-6)

@@ -1,19 +1,11 @@
 -- `code::row_at` meets its contract: the array of two rows is `rows`, and past the end of a row `getD` gives 0.
 -- Assumes nothing.
 use mathlib.Core.Path.{_≡_, sym}
-use Prim.Native.Nat.{ℕ, _≤_}
-use lib.ListN.{List·getD-eq-default}
 use borrow.Author.Needs.{needs}
-use Rattle.code.specs.declared.Case.{Case}
-use Rattle.code.specs.declared.Case.the-variants.{Letters, Figures}
-use Rattle.code.specs.Rows.{letters, figures, rowAt}
+use Rattle.code.specs.Rows.{rowAt}
+use Rattle.code.proofs.Laws.{no-code}
 use Rattle.code.proofs.row_at.Statement.{statement}
 use Rattle.code.proofs.row_at.Tie as tie
-
-no-code : (case : Case) (c : ℕ) → 32 ≤ c → rowAt case c ≡ 0
-unfolding rowAt
-no-code Letters c h = List·getD-eq-default letters 0 h
-no-code Figures c h = List·getD-eq-default figures 0 h
 
 place-of-requires : tie.Need-place-of-requires
 place-of-requires c κs = search needs
