@@ -1,8 +1,9 @@
 // Host text to line codes, by one table of 128 entries.
 ghost use mathlib.Core.Path.{_≡_};
 ghost use Prim.Native.Nat.{_<_};
+ghost use lib.ListN.{getD};
 ghost use Rattle.code.specs.Convert.{conversion};
-ghost use Rattle.convert.specs.Entry.{unpacked};
+ghost use Rattle.convert.specs.Entry.{Tabled, unpacked};
 use code::Case;
 use code::Conversion;
 
@@ -156,14 +157,29 @@ fn unpack(e: u8) -> Conversion
     Conversion::Cased(Case::Figures, c)
 }
 
+// The table, for a caller that lends it to many look-ups.
+pub fn table() -> [u8; 128]
+    ensures { λ r. ⌜ Tabled r ⌝ }
+{
+    TABLE
+}
+
+// What a host byte is on the line, by a table lent.
+pub fn look_up(table: &[u8], b: u8) -> Conversion
+    ensures { λ r. ⌜ r ≡ unpacked (getD (now (table .entry)) b 0) ⌝ }
+{
+    let i = b as usize;
+    if i < table.len() {
+        unpack(table[i])
+    } else {
+        Conversion::Nothing
+    }
+}
+
 // What a host byte is on the line.
 pub fn convert(b: u8) -> Conversion
     ensures { λ r. ⌜ r ≡ conversion b ⌝ }
 {
-    if b < 128 {
-        let i = b as usize;
-        unpack(TABLE[i])
-    } else {
-        Conversion::Nothing
-    }
+    let t = table();
+    look_up(&t, b)
 }
