@@ -1,3 +1,4 @@
 pub mod Cuts
 pub mod Digits
 pub mod Leads
+pub mod Runs

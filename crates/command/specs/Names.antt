@@ -9,3 +9,4 @@ pub use Rattle.command.specs.declared.Reader.{Reader}
 pub use Rattle.command.specs.declared.Out.{Out}
 pub use Rattle.command.specs.declared.Out.the-variants.{Nothing, One, Two, Finished}
 pub use Rattle.command.specs.declared.Step.{Step}
+pub use Rattle.command.specs.declared.Running.{Running}

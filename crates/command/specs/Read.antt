@@ -151,3 +151,10 @@ textOf Nothing = []
 textOf (One b) = b ∷ []
 textOf (Two b) = 47 ∷ b ∷ []
 textOf (Finished v count) = []
+
+-- a byte that made nothing
+abbrev pub isNothing : Out → Bool
+isNothing Nothing = true
+isNothing (One b) = false
+isNothing (Two b) = false
+isNothing (Finished v count) = false

@@ -3,7 +3,8 @@ ghost use mathlib.Core.Path.{_≡_};
 ghost use mathlib.Core.Bool.{true};
 ghost use Prim.Native.Nat.{_<_};
 ghost use lib.ListN.{getD, set};
-ghost use Rattle.command.specs.Read.{added, afresh, alike, at, digit, ends, ex, field, finish, first, grown, idle, inField, inside, isDigit, isLetter, opened, over, read, released, second, soundStage, swallowed, typed, verb, within};
+ghost use Rattle.command.specs.Read.{added, afresh, alike, at, digit, ends, ex, field, finish, first, grown, idle, inField, inside, isDigit, isLetter, isNothing, opened, over, read, released, second, soundStage, swallowed, typed, verb, within};
+ghost use Rattle.command.specs.Reads.{running};
 
 // A command's type: TW, TR or any other two letters.
 pub enum Verb {
@@ -52,6 +53,14 @@ pub enum Out {
 pub struct Step {
     pub reader: Reader,
     pub out: Out,
+}
+
+// A run of bytes that made nothing: the reader after them, how many they are, and what the next byte does; where none is left, it
+// does nothing.
+pub struct Running {
+    pub reader: Reader,
+    pub next: Step,
+    pub taken: usize,
 }
 
 // The reader at a stage in which no field is read.
@@ -327,6 +336,18 @@ fn finish(v: Verb, last: u8) -> Out
     }
 }
 
+// Whether a byte made nothing.
+fn is_nothing(out: Out) -> bool
+    ensures { λ r. ⌜ r ≡ isNothing out ⌝ }
+{
+    match out {
+        Out::Nothing => true,
+        Out::One(_) => false,
+        Out::Two(_) => false,
+        Out::Finished(_, _) => false,
+    }
+}
+
 impl Reader {
     // A reader with nothing held.
     pub fn idle() -> Self
@@ -356,6 +377,35 @@ impl Reader {
                 inside(b, finish(v, last), field(v, f, last, values, b))
             }
             Stage::Discard => inside(b, Out::Nothing, at(Stage::Discard, Out::Nothing)),
+        }
+    }
+
+    // The bytes up to the first that makes something.
+    pub fn run(self, bytes: &[u8]) -> Running
+        ensures { λ r. ⌜ r ≡ running self (now (bytes .entry)) ⌝ }
+    {
+        let mut reader = self;
+        let mut taken = 0;
+        while taken < bytes.len() {
+            let next = reader.read(bytes[taken]);
+            let out = next.out;
+            if !is_nothing(out) {
+                return Running {
+                    reader,
+                    next,
+                    taken,
+                };
+            }
+            reader = next.reader;
+            taken += 1;
+        }
+        Running {
+            reader,
+            next: Step {
+                reader,
+                out: Out::Nothing,
+            },
+            taken,
         }
     }
 
