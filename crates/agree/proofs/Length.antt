@@ -17,7 +17,8 @@ use Rattle.sender.specs.After.{afterUnshift, afterCase}
 use Rattle.sender.proofs.Sends.{notes-append}
 use Rattle.agree.specs.Names.{Case, Letters, Figures, Kind, Still, Space, Return, Shift, Char, Conversion, Nothing, Free, Cased, Settings, Known, Is, Record, Wanted, Sender}
 use Rattle.agree.specs.Names.known
-use Rattle.agree.proofs.After.{record-after}
+use Rattle.sender.proofs.After.{record-after}
+use Rattle.sender.proofs.Most.{code-length}
 use Rattle.agree.proofs.Folds.{item-cases}
 use Rattle.agree.proofs.Weights.{weight-code, places, column-reach}
 use Rattle.agree.proofs.Home.{Sound, sound}
@@ -64,29 +65,6 @@ ending-length o r [] = omega arith
 ending-length o r (c ∷ cs) =
     let s = endingCode o (r .case) c in
     rw (length-append s (endingOf o (notes o r s) cs)) (omega (arith, paid o r c, ending-length o (notes o r s) cs))
-
--- A code and its shift.
-
-shift-length : (n : Known) (want : Case) → length (shifts (shiftTo n want)) ≤ 1
-shift-length known.Unknown want = omega arith
-shift-length (Is Letters) Letters = omega arith
-shift-length (Is Letters) Figures = omega arith
-shift-length (Is Figures) Letters = omega arith
-shift-length (Is Figures) Figures = omega arith
-
-unshift-length : (b : Bool) (n : Known) → length (shifts (unshift b n)) ≤ 1
-unshift-length true n = shift-length n Letters
-unshift-length false n = omega arith
-
-kind-length : (o : Settings) (n : Known) (want : Case) (c : ℕ) (k : Kind) → length (sendKind o n want k c) ≤ 2
-kind-length o n want c Still = omega arith
-kind-length o n want c Space = omega (arith, unshift-length (o .onspace) n)
-kind-length o n want c Return = omega (arith, unshift-length (o .onreturn) n)
-kind-length o n want c (Shift to) = omega arith
-kind-length o n want c (Char bell) = rw (length-append (shifts (shiftTo n want)) (c ∷ [])) (omega (arith, shift-length n want))
-
-code-length : (o : Settings) (n : Known) (want : Case) (c : ℕ) → length (sendAs o n want c) ≤ 2
-code-length o n want c = kind-length o n want c (kindOf c)
 
 module _ (o : Settings) (t : Sound o) where
   pub ending-most : (r : Record) (b : Bool) → length (ending o r b) ≤ 12

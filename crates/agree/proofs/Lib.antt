@@ -1,5 +1,4 @@
 pub mod Agreement
-pub mod After
 pub mod Folds
 pub mod Prints
 pub mod Weights

@@ -16,7 +16,7 @@ use Rattle.sender.proofs.Sends.{notes-append}
 use Rattle.agree.specs.Names.{Case, Kind, Still, Space, Return, Shift, Char, Settings, Known, Column, At, Record, Wanted, Sender}
 use Rattle.agree.specs.Names.column
 use Rattle.agree.specs.Sure.{ColumnSure, CaseSure, isReturn, isCased, holds}
-use Rattle.agree.proofs.After.{record-after}
+use Rattle.sender.proofs.After.{record-after}
 use Rattle.agree.proofs.Folds.{item-cases, items-noted}
 
 pub holds-append : (f : Kind → Bool) (xs ys : List ℕ) → holds f (xs ++ ys) ≡ (holds f xs || holds f ys)

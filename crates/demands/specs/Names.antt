@@ -25,8 +25,7 @@ pub use Rattle.sender.specs.declared.Sender.{Sender}
 pub use Rattle.printer.specs.declared.Printer.{Printer}
 pub use Rattle.printer.specs.declared.Mark.{Mark}
 pub use Rattle.linebox.specs.declared.State.{State}
-pub use Rattle.linebox.specs.declared.Stream.{Stream}
-pub use Rattle.linebox.specs.declared.Stream.the-variants.{Host, Line, Tu}
+pub use Rattle.linebox.specs.Stream.{Stream, Host, Line, Tu}
 pub use Rattle.linebox.specs.declared.Answer.{Answer}
 pub use Rattle.linebox.specs.declared.Answer.the-variants.{All, NoRoom, NoCode, Unsound}
 pub use Rattle.linebox.specs.declared.Called.{Called}

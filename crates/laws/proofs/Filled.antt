@@ -2,25 +2,18 @@
 -- Assumes nothing.
 use Prim.Native.Nat.{ℕ, _+_, _-_, _≤_}
 use mathlib.Core.Path.{_≡_, refl, sym, ap, _∙_}
-use mathlib.Core.List.{List, [], _++_}
+use mathlib.Core.List.{List, [], _∷_, _++_}
 use native.Mathlib.Omega.{arith}
 use native.Mathlib.Nat.{le-of-eq}
 use borrow.Rule.Slice.PartMut.{putMid, midOf}
-use lib.ListN.{length, drop, length-append, length-drop}
+use lib.ListN.{length, drop, set, length-append, length-drop}
 use lib.Seq.{take-all}
-use Rattle.laws.specs.Written.{written, fronted}
+use Rattle.laws.specs.Written.{written, fronted, Filled}
 use Rattle.laws.proofs.Tail.{written-none, lent, fronted-more, length-fronted}
 
 -- the part still free
 pub free-length : (xs : List ℕ) (k : ℕ) → length (midOf k (length xs - k) xs) ≡ length xs - k
 free-length xs k = rw (take-all (length xs - k) (drop k xs) (le-of-eq (length-drop k xs))) (length-drop k xs)
-
--- a buffer with p at its front, of which k places are written
-pub record Filled (old now p : List ℕ) (k : ℕ) : Type 0 where
-  pub count : k ≡ length p
-  pub room : k ≤ length old
-  pub same-length : length now ≡ length old
-  pub places : now ≡ fronted old p
 
 pub filled-more : (old now p f ys : List ℕ) (k : ℕ) → Filled old now p k → length f ≤ length old - k → ys ≡ fronted (midOf k (length now - k) now) f
     → Filled old (putMid k (length now - k) now ys) (p ++ f) (k + length f)
@@ -37,3 +30,23 @@ filled-more old now p f ys k h fits e =
 -- a free part that comes back as it was
 pub unfilled : (now ys : List ℕ) (k : ℕ) → ys ≡ midOf k (length now - k) now → putMid k (length now - k) now ys ≡ now
 unfilled now ys k e = lent now ys k [] e ∙ sym (written-none now k)
+
+-- nothing written yet
+pub filled-none : (old : List ℕ) → Filled old old [] 0
+filled-none old = record { count = refl; room = omega arith; same-length = refl; places = refl }
+
+-- what a callee wrote at the front of the free part
+pub filled-on : (old now p f ys : List ℕ) (k m : ℕ) → Filled old now p k → Filled (midOf k (length now - k) now) ys f m → Filled old (putMid k (length now - k) now ys) (p ++ f) (k + m)
+filled-on old now p f ys k m h i =
+    let fits : length f ≤ length old - k = omega (arith, i .count, i .room, free-length now k, h .same-length) in
+    rw (i .count) (filled-more old now p f ys k h fits (i .places))
+
+-- one element at the front, and two
+pub filled-one : (d : List ℕ) (x : ℕ) → 1 ≤ length d → Filled d (set d 0 x) (x ∷ []) 1
+filled-one [] x h = absurd (omega arith)
+filled-one (y ∷ d) x h = record { count = refl; room = h; same-length = refl; places = refl }
+
+pub filled-two : (d : List ℕ) (x y : ℕ) → 2 ≤ length d → Filled d (set (set d 0 x) 1 y) (x ∷ y ∷ []) 2
+filled-two [] x y h = absurd (omega arith)
+filled-two (z ∷ []) x y h = absurd (omega arith)
+filled-two (z ∷ w ∷ d) x y h = record { count = refl; room = h; same-length = refl; places = refl }

@@ -4,6 +4,9 @@ pub mod Sent
 pub mod Answered
 pub mod Stays
 pub mod Turns
+pub mod Kept
+pub mod Plainly
+pub mod PlainText
 pub mod Rest
 pub mod Most
 pub mod Ending

@@ -10,17 +10,22 @@ use native.Mathlib.Nat.{zero-add, add-zero, sub-zero, le-of-eq}
 use borrow.Rule.Slice.PartMut.{putMid, midOf}
 use borrow.Author.Tests.{leb-true}
 use lib.Dec.{leb}
-use lib.ListN.{length, getD, drop, drop-of-length-le, length-append, length-drop}
-use lib.Seq.{drop-cons, take-all}
-use Rattle.laws.specs.Written.{written, fronted}
+use lib.ListN.{length, getD, take, drop, drop-of-length-le, length-append, length-drop}
+use lib.Seq.{drop-cons, drop-drop, getD-drop, take-all}
+use Rattle.laws.specs.Written.{written, fronted, Filled}
 use Rattle.laws.proofs.Tail.{lent, fronted-more, length-fronted}
-use Rattle.linebox.specs.Names.{State, Stream, Answer, All, NoRoom, NoCode, Taken, Called}
-use Rattle.linebox.specs.State.{sound}
-use Rattle.linebox.specs.Step.{Step, step}
-use Rattle.linebox.specs.Call.{firstOf, secondOf, refuses, fits, Done, stopped, onward, taking, called}
-use Rattle.linebox.specs.Byte.{Offers, Calls}
+use Rattle.linebox.specs.Names.{State, Stream, Host, Answer, All, NoRoom, NoCode, Taken, Ran, Called}
+use Rattle.linebox.specs.State.{sound, withReader}
+use Rattle.linebox.specs.Step.{Step, hosted, step}
+use Rattle.linebox.specs.Call.{firstOf, secondOf, refuses, fits, Done, stopped, onward, before, taking, called}
+use Rattle.linebox.specs.Byte.{Offers, Runs, Calls}
+use Rattle.command.specs.declared.Running.{Running}
+use Rattle.command.specs.Reads.{running}
+use Rattle.command.proofs.Runs.{run-within, run-next}
+use Rattle.command.specs.Read.{read}
 use Rattle.linebox.proofs.Stays.{sound-step}
-use Rattle.laws.proofs.Filled.{Filled, free-length, filled-more, unfilled}
+use Rattle.linebox.proofs.Kept.{kept}
+use Rattle.laws.proofs.Filled.{free-length, filled-more, filled-on, unfilled}
 use Rattle.laws.proofs.Both.{both}
 
 -- a test that was turned round
@@ -32,9 +37,20 @@ pub turned-false : (b : Bool) → not b ≡ false → b ≡ true
 turned-false true h = refl
 turned-false false h = sym h
 
--- n bytes taken, with p and q written, before the rest
-abbrev pub before : ℕ → List ℕ → List ℕ → Done → Done
-before n p q d = record { answer = d .answer; taken = n + d .taken; state = d .state; first = p ++ d .first; second = q ++ d .second }
+-- a run more before the rest
+joined : (n m : ℕ) (p new q : List ℕ) (d : Done) → before n p q (before m new [] d) ≡ before (n + m) (p ++ new) q d
+joined n m p new q d =
+    let u : n + (m + d .taken) ≡ n + m + d .taken = omega arith in
+    rw (u, append-assoc p new (d .first))
+
+joined-none : (n m : ℕ) (p q : List ℕ) (d : Done) → before n p q (before m [] [] d) ≡ before (n + m) p q d
+joined-none n m p q d =
+    let u : n + (m + d .taken) ≡ n + m + d .taken = omega arith in
+    rw u
+
+-- the bytes still to come
+rest-of : (xs : List ℕ) (n : ℕ) → take (length xs - n) (drop n xs) ≡ drop n xs
+rest-of xs n = take-all (length xs - n) (drop n xs) (le-of-eq (length-drop n xs))
 
 -- a byte more before the rest
 moved : (t : Stream) (x : Step) (n : ℕ) (p q : List ℕ) (d : Done) → before n p q (onward t x d) ≡ before (n + 1) (p ++ firstOf t x) (q ++ secondOf t x) d
@@ -74,6 +90,25 @@ module _ (t : Stream) (start : State) (input old₁ old₂ : List ℕ) where
     one = rw append-nil (r .one .places);
     two = rw append-nil (r .two .places);
   })
+
+  -- a run of plain bytes more
+  pub ran : (s : State) (n : ℕ) (now₁ now₂ ys : List ℕ) (k₁ k₂ : ℕ) (x : Ran) → Reached t start input old₁ old₂ s n now₁ now₂ k₁ k₂
+      → Runs t s (take (length input - n) (drop n input)) (midOf k₁ (length now₁ - k₁) now₁) ys x
+      → Reached t start input old₁ old₂ (x .state) (n + x .taken) (putMid k₁ (length now₁ - k₁) now₁ ys) now₂ (k₁ + x .count) k₂
+  ran s n now₁ now₂ ys k₁ k₂ x r f =
+      let g : Runs t s (drop n input) (midOf k₁ (length now₁ - k₁) now₁) ys x = rw (rest-of input n) at f in
+      let a : length (midOf k₁ (length now₁ - k₁) now₁) ≡ length old₁ - k₁ = free-length now₁ k₁ ∙ ap (λ (l : ℕ). l - k₁) (r .one .same-length) in
+      let u : length old₁ - k₁ - x .count ≡ length old₁ - (k₁ + x .count) = omega arith in
+      let e : taking t s (drop n input) (length old₁ - k₁) (length old₂ - k₂) ≡ before (x .taken) (g .new) [] (taking t (x .state) (drop (n + x .taken) input) (length old₁ - (k₁ + x .count)) (length old₂ - k₂)) = rw (a, u, drop-drop (x .taken) n input) at (g .rest (length old₂ - k₂)) in
+      record {
+        p = r .p ++ g .new;
+        q = r .q;
+        within = omega (arith, g .within, length-drop n input, r .within);
+        is-sound = g .kept;
+        one = filled-on old₁ now₁ (r .p) (g .new) ys k₁ (x .count) (r .one) (g .places);
+        two = r .two;
+        rest = r .rest ∙ ap (before n (r .p) (r .q)) e ∙ joined n (x .taken) (r .p) (g .new) (r .q) _;
+      }
 
   -- why it stops: no byte is left, the next is no code, or its output does not fit
   pub all-taken : (s : State) (n a b : ℕ) → length input ≤ n → taking t s (drop n input) a b ≡ stopped All s
@@ -137,3 +172,30 @@ module _ (t : Stream) (start : State) (input old₁ old₂ : List ℕ) where
         → Offers t next (midOf k₁ (length now₁ - k₁) now₁) (midOf k₂ (length now₂ - k₂) now₂) ys₁ ys₂ x → x .fits ≡ true
         → (k₁ + x .first ≤ length old₁) × (k₂ + x .second ≤ length old₂)
     turn-rooms now₁ now₂ ys₁ ys₂ k₁ k₂ x r e o fit = let u = turn now₁ now₂ ys₁ ys₂ k₁ k₂ x r e o fit in (u .one .room, u .two .room)
+
+-- a run of bytes that the command reader keeps more
+pub kept-on : (start : State) (input old₁ old₂ : List ℕ) (s : State) (n : ℕ) (now₁ now₂ : List ℕ) (k₁ k₂ : ℕ) → Reached Host start input old₁ old₂ s n now₁ now₂ k₁ k₂
+    → (u : Running) → u ≡ running (s .reader) (take (length input - n) (drop n input))
+    → Reached Host start input old₁ old₂ (withReader s (u .reader)) (n + u .taken) now₁ now₂ k₁ k₂
+kept-on start input old₁ old₂ s n now₁ now₂ k₁ k₂ r u h =
+    let v : u ≡ running (s .reader) (drop n input) = rw (rest-of input n) at h in
+    let k = kept s (drop n input) (length old₁ - k₁) (length old₂ - k₂) (r .is-sound) in
+    let w = run-within (s .reader) (drop n input) in
+    rw v (record {
+      p = r .p;
+      q = r .q;
+      within = omega (arith, w, length-drop n input, r .within);
+      is-sound = k .is-sound;
+      one = r .one;
+      two = r .two;
+      rest = r .rest ∙ ap (before n (r .p) (r .q)) (k .rest) ∙ rw (drop-drop (running (s .reader) (drop n input) .taken) n input) (joined-none n _ (r .p) (r .q) _);
+    })
+
+-- the byte after it is the one that the command reader has read already
+pub read-next : (s : State) (input : List ℕ) (n : ℕ) (u : Running) → u ≡ running (s .reader) (take (length input - n) (drop n input)) → n + u .taken < length input
+    → hosted (withReader (withReader s (u .reader)) (u .next .reader)) (u .reader .values) (u .next .out) ≡ step Host (withReader s (u .reader)) (getD input (n + u .taken) 0)
+read-next s input n u h lt =
+    let v : u ≡ running (s .reader) (drop n input) = rw (rest-of input n) at h in
+    let w : running (s .reader) (drop n input) .taken < length (drop n input) = omega (arith, length-drop n input, ap (λ (z : Running). z .taken) v) in
+    let e : u .next ≡ read (u .reader) (getD input (n + u .taken) 0) = rw v (run-next (s .reader) (drop n input) w ∙ rw (getD-drop n input (running (s .reader) (drop n input) .taken) 0)) in
+    rw e

@@ -1,17 +1,15 @@
 -- What putting one byte's output into the free parts of the lent buffers gives.
-use Prim.Native.Nat.{ℕ, min}
+use Prim.Native.Nat.{ℕ, _-_, _≤_}
 use mathlib.Core.Path.{_≡_}
 use mathlib.Core.Bool.{Bool, true, cond, _&&_}
 use mathlib.Core.List.{List, []}
 use lib.Dec.{leb}
-use lib.ListN.{length}
-use Rattle.laws.specs.Written.{fronted}
-use Rattle.sender.specs.declared.Burst.{Burst}
-use Rattle.sender.specs.declared.Sent.{Sent}
-use Rattle.sender.specs.Burst.{empty, codesOf}
-use Rattle.linebox.specs.Names.{State, Stream, Took, Taken, Called}
+use lib.ListN.{length, drop}
+use Rattle.laws.specs.Written.{fronted, Filled}
+use Rattle.linebox.specs.Names.{State, Stream, Took, Taken, Ran, Called}
 use Rattle.linebox.specs.Step.{Step, step}
-use Rattle.linebox.specs.Call.{firstOf, secondOf, fits, Done, called}
+use Rattle.linebox.specs.Call.{firstOf, secondOf, fits, Done, before, taking, called}
+use Rattle.linebox.specs.State.{sound}
 
 -- one buffer: all of `new` at its front, or no place touched
 pub record Puts (after : State) (new old now : List ℕ) (r : Took) : Type 0 where
@@ -19,13 +17,6 @@ pub record Puts (after : State) (new old now : List ℕ) (r : Took) : Type 0 whe
   pub state : r .state ≡ after
   pub count : r .count ≡ cond (r .fits) (length new) 0
   pub places : now ≡ cond (r .fits) (fronted old new) old
-
--- the same of a burst
-pub record PutsBurst (after : State) (b : Burst) (old now : List ℕ) (r : Took) : Type 0 where
-  pub fits : r .fits ≡ leb (min 16 (b .count)) (length old)
-  pub state : r .state ≡ after
-  pub count : r .count ≡ cond (r .fits) (min 16 (b .count)) 0
-  pub places : now ≡ cond (r .fits) (fronted old (codesOf b)) old
 
 -- both buffers: the byte's whole output, or no place touched
 pub record Offers (t : Stream) (x : Step) (old₁ old₂ now₁ now₂ : List ℕ) (r : Taken) : Type 0 where
@@ -47,9 +38,13 @@ inFirst r = record { fits = r .fits; state = r .state; first = r .count; second 
 abbrev pub inSecond : Took → Taken
 inSecond r = record { fits = r .fits; state = r .state; first = 0; second = r .count }
 
--- the state's sender, and no codes yet
-abbrev pub starting : State → Sent
-starting s = record { sender = s .sender; burst = empty }
+-- a run of bytes that write to the first buffer alone: they stand before what the rest gives, whatever room the second has
+pub record Runs (t : Stream) (s : State) (input old now : List ℕ) (r : Ran) : Type 0 where
+  pub new : List ℕ
+  pub within : r .taken ≤ length input
+  pub kept : sound (r .state) ≡ true
+  pub places : Filled old now new (r .count)
+  pub rest : (room : ℕ) → taking t s input (length old) room ≡ before (r .taken) new [] (taking t (r .state) (drop (r .taken) input) (length old - r .count) room)
 
 -- A whole call: what it gives is the definition's, and each buffer is the old one with what was written at its front.
 pub record Calls (d : Done) (old₁ old₂ now₁ now₂ : List ℕ) (r : Called) : Type 0 where

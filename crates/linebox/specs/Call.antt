@@ -1,5 +1,5 @@
 -- How a call ends: its answer, what it took, the state, and what it wrote to each lent buffer in the order lent.
-use Prim.Native.Nat.{ℕ, suc, _-_}
+use Prim.Native.Nat.{ℕ, suc, _+_, _-_}
 use mathlib.Core.Bool.{Bool, true, false, cond, _&&_}
 use mathlib.Core.List.{List, [], _∷_, _++_}
 use lib.Dec.{leb, ltb}
@@ -55,6 +55,10 @@ stopped answer s = record { answer = answer; taken = 0; state = s; first = []; s
 -- one byte taken, and then the others
 abbrev pub onward : Stream → Step → Done → Done
 onward t x d = record { answer = d .answer; taken = suc (d .taken); state = d .state; first = firstOf t x ++ d .first; second = secondOf t x ++ d .second }
+
+-- n bytes taken, with p and q written, before the rest
+abbrev pub before : ℕ → List ℕ → List ℕ → Done → Done
+before n p q d = record { answer = d .answer; taken = n + d .taken; state = d .state; first = p ++ d .first; second = q ++ d .second }
 
 -- from a sound state, with this room in the two buffers
 abbrev pub taking : Stream → State → List ℕ → ℕ → ℕ → Done

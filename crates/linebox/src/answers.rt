@@ -5,63 +5,12 @@ ghost use lib.ListN.{length, take};
 ghost use Rattle.message.specs.Made.{Made};
 ghost use Rattle.settings.specs.Command.{commanded};
 ghost use Rattle.settings.specs.Laws.{Sound};
-ghost use Rattle.sender.specs.Item.{fresh};
-ghost use Rattle.linebox.specs.State.{withStored};
 ghost use Rattle.linebox.specs.Step.{obeys};
 ghost use Rattle.linebox.specs.Byte.{Puts};
 use crate::State;
 use crate::Took;
-use code::Case;
+use crate::states::with_stored;
 use command::Verb;
-use sender::Column;
-use sender::Known;
-use sender::Last;
-use sender::Record;
-use sender::Sender;
-use settings::Stored;
-
-// The sender on connection: the record unknown, no last item.
-pub fn fresh_sender() -> Sender
-    ensures { λ r. ⌜ r ≡ fresh ⌝ }
-{
-    Sender {
-        held: Record {
-            case: Known::Unknown,
-            column: Column::Unknown,
-        },
-        last: Last::Other,
-    }
-}
-
-// The state with what a command stored.
-fn with_stored(s: State, t: Stored) -> State
-    ensures { λ r. ⌜ r ≡ withStored s t ⌝ }
-{
-    let settings = t.settings;
-    let connection = t.connection;
-    let reader = s.reader;
-    if t.connected {
-        return State {
-            settings,
-            connection,
-            sender: fresh_sender(),
-            reading: Case::Letters,
-            incoming: Case::Letters,
-            reader,
-        };
-    }
-    let sender = s.sender;
-    let reading = s.reading;
-    let incoming = s.incoming;
-    State {
-        settings,
-        connection,
-        sender,
-        reading,
-        incoming,
-        reader,
-    }
-}
 
 // The message of the first n numbers.
 fn make_first(numbers: [u8; 10], n: usize, out: &mut [u8]) -> usize

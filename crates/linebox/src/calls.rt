@@ -1,48 +1,21 @@
-// The three calls, by one loop over the bytes of a stream.
+// The three calls, each a loop over the bytes of its stream. Answer 3 comes before all.
 ghost use mathlib.Core.Path.{_≡_};
 ghost use mathlib.Core.Bool.{true};
 ghost use lib.ListN.{length, drop};
-ghost use Rattle.settings.specs.Laws.{Sound};
 ghost use Rattle.linebox.specs.Names.{Host as Names·Host, Line as Names·Line, Tu as Names·Tu};
-ghost use Rattle.linebox.specs.Step.{step};
 ghost use Rattle.linebox.specs.State.{sound};
-ghost use Rattle.linebox.specs.Call.{refuses, taking, call, endedAt};
-ghost use Rattle.linebox.specs.Byte.{Offers, Calls, CallsOne};
+ghost use Rattle.linebox.specs.Call.{taking, call, endedAt};
+ghost use Rattle.linebox.specs.Byte.{Calls, CallsOne};
 use crate::Answer;
 use crate::Called;
 use crate::State;
-use crate::Stream;
-use crate::Taken;
-use crate::host::put_host;
+use crate::host::put_read;
 use crate::line::put_line;
-use crate::puts::in_first;
+use crate::runs::take_codes;
+use crate::runs::take_text;
 use crate::sends::put_tu;
 use crate::soundness::is_sound;
-
-// Whether a byte of a code stream is over 31.
-fn is_refused(t: Stream, s: State, b: u8) -> bool
-    ensures { λ r. ⌜ r ≡ refuses t s b ⌝ }
-{
-    match t {
-        Stream::Host => false,
-        Stream::Line => 31 < b,
-        Stream::Tu => 31 < b,
-    }
-}
-
-// One byte of a stream, with the parts of its two buffers that are free.
-fn put_byte(t: Stream, s: State, b: u8, first: &mut [u8], second: &mut [u8]) -> Taken
-    requires { ⌜ Sound (s .settings) (s .connection) ⌝ }
-    ensures { λ r. ⌜
-        Offers t (step t s b) (now (first .entry)) (now (second .entry)) (now (first .exit)) (now (second .exit)) r
-        ⌝ }
-{
-    match t {
-        Stream::Host => put_host(s, b, first, second),
-        Stream::Line => put_line(s, b, first, second),
-        Stream::Tu => in_first(put_tu(s, b, first)),
-    }
-}
+use crate::states::with_reader;
 
 // A call that ends here.
 fn ended(answer: Answer, taken: usize, first: usize, second: usize, state: State) -> Called
@@ -57,11 +30,12 @@ fn ended(answer: Answer, taken: usize, first: usize, second: usize, state: State
     }
 }
 
-// The bytes of a stream from a sound state, as many as have room, into the two buffers from their starts on.
-fn take_all(t: Stream, start: State, input: &[u8], first: &mut [u8], second: &mut [u8]) -> Called
+// Host bytes from a sound state, as many as have room: a run of text, a run of what the command reader keeps, and the byte that makes
+// something, again and again.
+fn take_host(start: State, input: &[u8], line: &mut [u8], host: &mut [u8]) -> Called
     requires { ⌜ sound start ≡ true ⌝ }
     ensures { λ r. ⌜
-        Calls (taking t start (now (input .entry)) (length (now (first .entry))) (length (now (second .entry)))) (now (first .entry)) (now (second .entry)) (now (first .exit)) (now (second .exit)) r
+        Calls (taking Names·Host start (now (input .entry)) (length (now (line .entry))) (length (now (host .entry)))) (now (line .entry)) (now (host .entry)) (now (line .exit)) (now (host .exit)) r
         ⌝ }
 {
     let mut state = start;
@@ -69,11 +43,20 @@ fn take_all(t: Stream, start: State, input: &[u8], first: &mut [u8], second: &mu
     let mut one = 0;
     let mut two = 0;
     while taken < input.len() {
-        let b = input[taken];
-        if is_refused(t, state, b) {
-            return ended(Answer::NoCode, taken, one, two, state);
+        let text = take_text(state, &input[taken..], &mut line[one..]);
+        let told = text.state;
+        let reader = told.reader;
+        one += text.count;
+        taken += text.taken;
+        let kept = reader.run(&input[taken..]);
+        let held = kept.reader;
+        let next = kept.next;
+        state = with_reader(told, held);
+        taken += kept.taken;
+        if input.len() <= taken {
+            return ended(Answer::All, taken, one, two, state);
         }
-        let x = put_byte(t, state, b, &mut first[one..], &mut second[two..]);
+        let x = put_read(state, next, &mut line[one..], &mut host[two..]);
         if !x.fits {
             return ended(Answer::NoRoom, taken, one, two, state);
         }
@@ -83,6 +66,67 @@ fn take_all(t: Stream, start: State, input: &[u8], first: &mut [u8], second: &mu
         taken += 1;
     }
     ended(Answer::All, taken, one, two, state)
+}
+
+// Line codes from a sound state, as many as have room.
+fn take_line(start: State, codes: &[u8], host: &mut [u8], tu: &mut [u8]) -> Called
+    requires { ⌜ sound start ≡ true ⌝ }
+    ensures { λ r. ⌜
+        Calls (taking Names·Line start (now (codes .entry)) (length (now (host .entry))) (length (now (tu .entry)))) (now (host .entry)) (now (tu .entry)) (now (host .exit)) (now (tu .exit)) r
+        ⌝ }
+{
+    let mut state = start;
+    let mut taken = 0;
+    let mut one = 0;
+    let mut two = 0;
+    while taken < codes.len() {
+        let c = codes[taken];
+        if 31 < c {
+            return ended(Answer::NoCode, taken, one, two, state);
+        }
+        let x = put_line(state, c, &mut host[one..], &mut tu[two..]);
+        if !x.fits {
+            return ended(Answer::NoRoom, taken, one, two, state);
+        }
+        state = x.state;
+        one += x.first;
+        two += x.second;
+        taken += 1;
+    }
+    ended(Answer::All, taken, one, two, state)
+}
+
+// TU codes from a sound state, as many as have room: a run of codes, and the one that may not fit, again and again.
+fn take_tu(start: State, codes: &[u8], line: &mut [u8]) -> Called
+    requires { ⌜ sound start ≡ true ⌝ }
+    ensures { λ r. ⌜
+        CallsOne (taking Names·Tu start (now (codes .entry)) (length (now (line .entry))) 0) (now (line .entry)) (now (line .exit)) r
+        ⌝ }
+{
+    let mut state = start;
+    let mut taken = 0;
+    let mut one = 0;
+    while taken < codes.len() {
+        let run = take_codes(state, &codes[taken..], &mut line[one..]);
+        state = run.state;
+        one += run.count;
+        taken += run.taken;
+        if codes.len() <= taken {
+            return ended(Answer::All, taken, one, 0, state);
+        }
+        let c = codes[taken];
+        if 31 < c {
+            return ended(Answer::NoCode, taken, one, 0, state);
+        }
+        let x = put_tu(state, c, &mut line[one..]);
+        if !x.fits {
+            return ended(Answer::NoRoom, taken, one, 0, state);
+        }
+        state = x.state;
+        one += x.count;
+        taken += 1;
+    }
+    ended(Answer::All, taken, one, 0, state)
 }
 
 // What is left of the input from the first byte not taken on; nothing past its end.
@@ -96,26 +140,17 @@ pub fn rest(input: &[u8], taken: usize) -> &[u8]
     }
 }
 
-// One call of a stream: answer 3 comes before all.
-fn run_call(t: Stream, s: State, input: &[u8], first: &mut [u8], second: &mut [u8]) -> Called
-    ensures { λ r. ⌜
-        Calls (call t s (now (input .entry)) (length (now (first .entry))) (length (now (second .entry)))) (now (first .entry)) (now (second .entry)) (now (first .exit)) (now (second .exit)) r
-        ⌝ }
-{
-    if is_sound(s) {
-        take_all(t, s, input, first, second)
-    } else {
-        ended(Answer::Unsound, 0, 0, 0, s)
-    }
-}
-
 // A host call lends a line and a host buffer. The input is the part from the count taken so far.
 pub fn host(s: State, input: &[u8], from: usize, line: &mut [u8], host: &mut [u8]) -> Called
     ensures { λ r. ⌜
         Calls (call Names·Host s (drop from (now (input .entry))) (length (now (line .entry))) (length (now (host .entry)))) (now (line .entry)) (now (host .entry)) (now (line .exit)) (now (host .exit)) r
         ⌝ }
 {
-    run_call(Stream::Host, s, rest(input, from), line, host)
+    if is_sound(s) {
+        take_host(s, rest(input, from), line, host)
+    } else {
+        ended(Answer::Unsound, 0, 0, 0, s)
+    }
 }
 
 // A line call lends a host and a TU buffer. The codes are the part from the count taken so far.
@@ -124,7 +159,11 @@ pub fn line(s: State, codes: &[u8], from: usize, host: &mut [u8], tu: &mut [u8])
         Calls (call Names·Line s (drop from (now (codes .entry))) (length (now (host .entry))) (length (now (tu .entry)))) (now (host .entry)) (now (tu .entry)) (now (host .exit)) (now (tu .exit)) r
         ⌝ }
 {
-    run_call(Stream::Line, s, rest(codes, from), host, tu)
+    if is_sound(s) {
+        take_line(s, rest(codes, from), host, tu)
+    } else {
+        ended(Answer::Unsound, 0, 0, 0, s)
+    }
 }
 
 // A TU call lends a line buffer. The codes are the part from the count taken so far.
@@ -133,6 +172,9 @@ pub fn tu(s: State, codes: &[u8], from: usize, line: &mut [u8]) -> Called
         CallsOne (call Names·Tu s (drop from (now (codes .entry))) (length (now (line .entry))) 0) (now (line .entry)) (now (line .exit)) r
         ⌝ }
 {
-    let mut none = [0u8; 0];
-    run_call(Stream::Tu, s, rest(codes, from), line, &mut none)
+    if is_sound(s) {
+        take_tu(s, rest(codes, from), line)
+    } else {
+        ended(Answer::Unsound, 0, 0, 0, s)
+    }
 }

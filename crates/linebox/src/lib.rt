@@ -5,8 +5,10 @@ pub mod calls;
 mod host;
 mod line;
 mod puts;
+mod runs;
 mod sends;
 pub mod soundness;
+mod states;
 
 use code::Case;
 use command::Reader;
@@ -23,13 +25,6 @@ pub struct State {
     pub reading: Case,
     pub incoming: Case,
     pub reader: Reader,
-}
-
-// Where a byte comes from: the host, the line or the TU.
-pub enum Stream {
-    Host,
-    Line,
-    Tu,
 }
 
 // How a call ends: all bytes taken, no room for the next byte's output, a next byte that is no code, or a state that is not
@@ -54,6 +49,13 @@ pub struct Taken {
     pub state: State,
     pub first: usize,
     pub second: usize,
+}
+
+// A run of bytes that wrote to the first buffer alone: the state after it, how many bytes they were, and how many places were written.
+pub struct Ran {
+    pub state: State,
+    pub taken: usize,
+    pub count: usize,
 }
 
 // What a call gives: its answer, how many bytes it took, how many it wrote to each lent buffer in the order lent, and the state.

@@ -12,6 +12,7 @@ use crate::puts::in_first;
 use crate::puts::in_second;
 use crate::puts::none;
 use crate::puts::put_one;
+use crate::states::with_reading;
 use code::Case;
 use code::Kind;
 use settings::Connection;
@@ -39,25 +40,6 @@ fn is_read(reports: bool, k: Kind) -> bool
         Kind::Return => true,
         Kind::Shift(_) => reports,
         Kind::Char(_) => true,
-    }
-}
-
-// The state with another reading case.
-fn with_reading(s: State, case: Case) -> State
-    ensures { λ r. ⌜ r ≡ withReading s case ⌝ }
-{
-    let settings = s.settings;
-    let connection = s.connection;
-    let sender = s.sender;
-    let incoming = s.incoming;
-    let reader = s.reader;
-    State {
-        settings,
-        connection,
-        sender,
-        reading: case,
-        incoming,
-        reader,
     }
 }
 

@@ -4,7 +4,7 @@ ghost use mathlib.Core.Bool.{true};
 ghost use lib.ListN.{length};
 ghost use Rattle.linebox.specs.State.{freshBox, sound};
 use crate::State;
-use crate::answers::fresh_sender;
+use crate::states::fresh_sender;
 use code::Case;
 use command::Reader;
 use settings::Connection;

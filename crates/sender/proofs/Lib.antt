@@ -1,4 +1,7 @@
 pub mod Sends
-pub mod Endings
-pub mod OneItem
-pub mod Whole
+pub mod After
+mod Shifted
+pub mod Most
+mod Endings
+mod OneItem
+pub mod Sending

@@ -17,6 +17,8 @@ pub use Rattle.sender.specs.declared.Last.{Last}
 pub use Rattle.sender.specs.declared.Last.the-variants as last
 pub use Rattle.sender.specs.declared.Wanted.{Wanted}
 pub use Rattle.sender.specs.declared.Sender.{Sender}
-pub use Rattle.sender.specs.declared.Burst.{Burst}
-pub use Rattle.sender.specs.declared.Sending.{Sending}
+pub use Rattle.sender.specs.declared.Asks.{Asks}
+pub use Rattle.sender.specs.declared.Asks.the-variants.{Text, Codes}
+pub use Rattle.sender.specs.declared.Noted.{Noted}
+pub use Rattle.sender.specs.declared.Item.{Item}
 pub use Rattle.sender.specs.declared.Sent.{Sent}

@@ -1,35 +1,21 @@
-// Codes onto the line, each noted in the record.
+// One code with its shifts, and an ending of several, at the front of a buffer.
 ghost use mathlib.Core.Path.{_≡_};
-ghost use mathlib.Core.Bool.{_&&_};
+ghost use mathlib.Core.Bool.{cond};
 ghost use mathlib.Core.List.{[], _∷_};
-ghost use Rattle.code.specs.Kinds.{kindOf, shifts, moves};
-ghost use Rattle.sender.specs.Code.{isCase, shiftTo, unshift, sendKind, sendAs};
-ghost use Rattle.sender.specs.Ending.{onRecord, endingOf, untilZero, due, ending};
-ghost use Rattle.sender.specs.Item.{character};
-ghost use Rattle.sender.specs.Burst.{sending};
-use crate::Column;
+ghost use Prim.Native.Nat.{_≤_};
+ghost use lib.ListN.{length};
+ghost use Rattle.laws.specs.Written.{Filled};
+ghost use Rattle.sender.specs.Names.{Letters as Names·Letters};
+ghost use Rattle.sender.specs.Code.{isCase, shiftFor, unshift, follow, sendKind};
+ghost use Rattle.sender.specs.Ending.{onRecord, endingOf, untilZero};
+ghost use Rattle.sender.specs.Sends.{Notes};
 use crate::Known;
+use crate::Noted;
 use crate::Record;
-use crate::Sending;
-use crate::Wanted;
-use crate::bursts::add;
-use crate::notes::note;
+use crate::records::after;
 use code::Case;
 use code::Kind;
 use settings::Settings;
-
-// One code of this kind.
-fn emit(o: Settings, s: Sending, c: u8, k: Kind) -> Sending
-    requires { ⌜ k ≡ kindOf c ⌝ }
-    ensures { λ r. ⌜ r ≡ sending o s (c ∷ []) ⌝ }
-{
-    let held = s.held;
-    let burst = s.burst;
-    Sending {
-        held: note(o, held, k),
-        burst: add(burst, c),
-    }
-}
 
 // Whether the case on record is the wanted one.
 fn is_case(n: Known, want: Case) -> bool
@@ -50,38 +36,59 @@ fn is_case(n: Known, want: Case) -> bool
     }
 }
 
-// The right shift, where the case that was on record is another or unknown.
-fn shift(o: Settings, s: Sending, n: Known, want: Case) -> Sending
-    ensures { λ r. ⌜ r ≡ sending o s (shifts (shiftTo n want)) ⌝ }
+// Whether a shift goes before a code of this kind.
+fn is_led(n: Known, want: Case, k: Kind) -> bool
+    ensures { λ r. ⌜ shiftFor n want k ≡ cond r (want ∷ []) [] ⌝ }
 {
-    if is_case(n, want) {
-        s
-    } else {
-        emit(o, s, code::shift_to(want), Kind::Shift(want))
-    }
-}
-
-// LTRS after a space or a return, where its option is on and the case was not known to be letters.
-fn unshift(o: Settings, s: Sending, on: bool, n: Known) -> Sending
-    ensures { λ r. ⌜ r ≡ sending o s (shifts (unshift on n)) ⌝ }
-{
-    if on { shift(o, s, n, Case::Letters) } else { s }
-}
-
-// One code in its wanted case: the shift that it needs, the code, the LTRS that follows.
-fn send_as(o: Settings, s: Sending, want: Case, c: u8, k: Kind) -> Sending
-    requires { ⌜ k ≡ kindOf c ⌝ }
-    ensures { λ r. ⌜ r ≡ sending o s (sendKind o (s .held .case) want k c) ⌝ }
-{
-    let held = s.held;
-    let n = held.case;
     match k {
-        Kind::Still => emit(o, s, c, k),
-        Kind::Space => unshift(o, emit(o, s, c, k), o.onspace, n),
-        Kind::Return => unshift(o, emit(o, s, c, k), o.onreturn, n),
-        Kind::Shift(_) => emit(o, s, c, k),
-        Kind::Char(_) => emit(o, shift(o, s, n, want), c, k),
+        Kind::Still => false,
+        Kind::Space => false,
+        Kind::Return => false,
+        Kind::Shift(_) => false,
+        Kind::Char(_) => !is_case(n, want),
     }
+}
+
+// Whether LTRS follows a space or a return, by its option.
+fn is_unshifted(on: bool, n: Known) -> bool
+    ensures { λ r. ⌜ unshift on n ≡ cond r (Names·Letters ∷ []) [] ⌝ }
+{
+    if on {
+        !is_case(n, Case::Letters)
+    } else {
+        false
+    }
+}
+
+// Whether LTRS follows a code of this kind.
+fn is_followed(o: Settings, n: Known, k: Kind) -> bool
+    ensures { λ r. ⌜ follow o n k ≡ cond r (Names·Letters ∷ []) [] ⌝ }
+{
+    match k {
+        Kind::Still => false,
+        Kind::Space => is_unshifted(o.onspace, n),
+        Kind::Return => is_unshifted(o.onreturn, n),
+        Kind::Shift(_) => false,
+        Kind::Char(_) => false,
+    }
+}
+
+// One code in its wanted case: the shift that it needs, the code, the LTRS that follows. How many they are.
+pub fn put_code(o: Settings, n: Known, want: Case, c: u8, k: Kind, out: &mut [u8]) -> usize
+    requires { ⌜ 2 ≤ length (now out) ⌝ }
+    ensures { λ r. ⌜ Filled (now (out .entry)) (now (out .exit)) (sendKind o n want k c) r ⌝ }
+{
+    if is_led(n, want, k) {
+        out[0] = code::shift_to(want);
+        out[1] = c;
+        return 2;
+    }
+    out[0] = c;
+    if is_followed(o, n, k) {
+        out[1] = code::shift_to(Case::Letters);
+        return 2;
+    }
+    1
 }
 
 // The case that a code of an ending is sent in: the one on record, letters while it is unknown.
@@ -94,64 +101,28 @@ fn on_record(n: Known) -> Case
     }
 }
 
-// One code of an ending.
-fn ending_code(o: Settings, s: Sending, c: u8) -> Sending
-    ensures { λ r. ⌜ r ≡ sending o s (sendAs o (s .held .case) (onRecord (s .held .case)) c) ⌝ }
-{
-    let held = s.held;
-    let n = held.case;
-    send_as(o, s, on_record(n), c, code::kind_of(c))
-}
-
 // A string's codes as an ending, up to its first 0.
-fn send_ending(o: Settings, start: Sending, string: [u8; 8]) -> Sending
-    ensures { λ r. ⌜ r ≡ sending o start (endingOf o (start .held) (untilZero string)) ⌝ }
+pub fn put_ending(o: Settings, start: Record, string: [u8; 8], out: &mut [u8]) -> Noted
+    requires { ⌜ 16 ≤ length (now out) ⌝ }
+    ensures { λ r. ⌜
+        (r .count ≤ 16) × Notes o start (endingOf o start (untilZero string)) (now (out .entry)) (now (out .exit)) r
+        ⌝ }
 {
-    let mut s = start;
+    let mut held = start;
+    let mut count = 0;
     let mut i = 0;
     while i < 8 {
         let c = string[i];
         if c == 0 {
-            return s;
+            return Noted { held, count };
         }
-        s = ending_code(o, s, c);
+        let case = held.case;
+        let want = on_record(case);
+        let k = code::kind_of(c);
+        let n = put_code(o, case, want, c, k, &mut out[count..]);
+        held = after(o, held, want, k);
+        count += n;
         i += 1;
     }
-    s
-}
-
-// Whether an ending is due at this column.
-fn is_due(o: Settings, col: Column) -> bool
-    ensures { λ r. ⌜ r ≡ due o col ⌝ }
-{
-    match col {
-        Column::Unknown => false,
-        Column::At(n) => { if o.endings { o.limit <= n } else { false } }
-    }
-}
-
-// The ending, where it goes before this code.
-fn end_line(o: Settings, s: Sending, moves: bool) -> Sending
-    ensures { λ r. ⌜ r ≡ sending o s (ending o (s .held) (moves && due o (s .held .column))) ⌝ }
-{
-    let held = s.held;
-    let col = held.column;
-    let string = o.string;
-    if moves {
-        if is_due(o, col) {
-            return send_ending(o, s, string);
-        }
-    }
-    s
-}
-
-// A character asked for: the ending that is due, then the code with its shifts.
-pub fn send_character(o: Settings, s: Sending, w: Wanted, k: Kind) -> Sending
-    requires { ⌜ k ≡ kindOf (w .code) ⌝ }
-    ensures { λ r. ⌜ r ≡ sending o s (character o (s .held) w) ⌝ }
-{
-    let case = w.case;
-    let c = w.code;
-    let ended = end_line(o, s, code::moves(case, k));
-    send_as(o, ended, case, c, k)
+    Noted { held, count }
 }

@@ -1,21 +1,71 @@
-// Items: what host text and TU codes ask for, under option 72.
+// Items at the front of a buffer: the ending that is due, the code with its shifts, and what option 72 drops.
 ghost use mathlib.Core.Path.{_≡_};
 ghost use mathlib.Core.Bool.{_&&_};
 ghost use mathlib.Core.List.{[], _∷_};
-ghost use Rattle.code.specs.Convert.{conversion};
-ghost use Rattle.sender.specs.Item.{lastOf, repeats, wantedOf, unshiftedBy, incoming};
-ghost use Rattle.sender.specs.Burst.{sentAll};
-use crate::Burst;
+ghost use Prim.Native.Nat.{_≤_};
+ghost use lib.ListN.{length};
+ghost use Rattle.code.specs.Kinds.{kindOf};
+ghost use Rattle.sender.specs.Ending.{due, ending};
+ghost use Rattle.sender.specs.Item.{character, lastOf, repeats};
+ghost use Rattle.sender.specs.Sends.{most, Notes, Puts};
+use crate::Column;
+use crate::Item;
 use crate::Last;
+use crate::Noted;
+use crate::Record;
 use crate::Sender;
-use crate::Sending;
-use crate::Sent;
 use crate::Wanted;
-use crate::codes::send_character;
+use crate::codes::put_code;
+use crate::codes::put_ending;
+use crate::records::after;
 use code::Case;
-use code::Conversion;
 use code::Kind;
 use settings::Settings;
+
+// Whether an ending is due at this column.
+fn is_due(o: Settings, col: Column) -> bool
+    ensures { λ r. ⌜ r ≡ due o col ⌝ }
+{
+    match col {
+        Column::Unknown => false,
+        Column::At(n) => { if o.endings { o.limit <= n } else { false } }
+    }
+}
+
+// The ending, where it goes before this code.
+fn end_line(o: Settings, held: Record, moves: bool, out: &mut [u8]) -> Noted
+    requires { ⌜ 16 ≤ length (now out) ⌝ }
+    ensures { λ r. ⌜
+        (r .count ≤ 16) × Notes o held (ending o held (moves && due o (held .column))) (now (out .entry)) (now (out .exit)) r
+        ⌝ }
+{
+    let col = held.column;
+    let string = o.string;
+    if moves {
+        if is_due(o, col) {
+            return put_ending(o, held, string, out);
+        }
+    }
+    Noted { held, count: 0 }
+}
+
+// A character asked for: the ending that is due, then the code with its shifts.
+fn put_character(o: Settings, held: Record, w: Wanted, k: Kind, out: &mut [u8]) -> Noted
+    requires { ⌜ (k ≡ kindOf (w .code)) × (most ≤ length (now out)) ⌝ }
+    ensures { λ r. ⌜ Notes o held (character o held w) (now (out .entry)) (now (out .exit)) r ⌝ }
+{
+    let case = w.case;
+    let c = w.code;
+    let ended = end_line(o, held, code::moves(case, k), out);
+    let then = ended.held;
+    let n = ended.count;
+    let known = then.case;
+    let m = put_code(o, known, case, c, k, &mut out[n..]);
+    Noted {
+        held: after(o, then, case, k),
+        count: n + m,
+    }
+}
 
 // The item that a code of this kind is, as option 72 asks of it.
 fn last_of(k: Kind) -> Last
@@ -67,64 +117,24 @@ fn is_dropped(o: Settings, this: Last, was: Last) -> bool
 }
 
 // One item.
-pub fn send(o: Settings, s: Sent, w: Wanted) -> Sent
-    ensures { λ r. ⌜ r ≡ sentAll o s (w ∷ []) ⌝ }
+pub fn put_item(o: Settings, s: Sender, w: Wanted, out: &mut [u8]) -> Item
+    requires { ⌜ most ≤ length (now out) ⌝ }
+    ensures { λ r. ⌜ Puts o s (w ∷ []) (now (out .entry)) (now (out .exit)) r ⌝ }
 {
-    let sender = s.sender;
-    let burst = s.burst;
-    let held = sender.held;
-    let before = sender.last;
+    let held = s.held;
+    let before = s.last;
     let k = code::kind_of(w.code);
     let last = last_of(k);
     if is_dropped(o, last, before) {
-        return Sent {
+        return Item {
             sender: Sender { held, last },
-            burst,
+            count: 0,
         };
     }
-    let t = send_character(o, Sending { held, burst }, w, k);
-    let noted = t.held;
-    let grown = t.burst;
-    Sent {
+    let x = put_character(o, held, w, k, out);
+    let noted = x.held;
+    Item {
         sender: Sender { held: noted, last },
-        burst: grown,
-    }
-}
-
-// A text byte of the host: an item, if it has a code.
-pub fn text(o: Settings, s: Sent, b: u8) -> Sent
-    ensures { λ r. ⌜ r ≡ sentAll o s (wantedOf (conversion b)) ⌝ }
-{
-    match convert::convert(b) {
-        Conversion::Nothing => s,
-        Conversion::Free(c) => send(
-            o,
-            s,
-            Wanted {
-                case: Case::Letters,
-                code: c,
-            },
-        ),
-        Conversion::Cased(case, c) => send(o, s, Wanted { case, code: c }),
-    }
-}
-
-// Letters where the option is on, and else the case as it was.
-fn unshifted_by(on: bool, case: Case) -> Case
-    ensures { λ r. ⌜ r ≡ unshiftedBy on case ⌝ }
-{
-    if on { Case::Letters } else { case }
-}
-
-// Mode 4's incoming reading case after a code of this kind.
-pub fn incoming(o: Settings, case: Case, k: Kind) -> Case
-    ensures { λ r. ⌜ r ≡ incoming o case k ⌝ }
-{
-    match k {
-        Kind::Still => case,
-        Kind::Space => unshifted_by(o.onspace, case),
-        Kind::Return => unshifted_by(o.onreturn, case),
-        Kind::Shift(to) => to,
-        Kind::Char(_) => case,
+        count: x.count,
     }
 }

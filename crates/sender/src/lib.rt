@@ -1,11 +1,11 @@
-// Sending to the line: the record of the printer's case and column, and the codes that an item goes out as. A burst is built
-// apart and then put into the lent buffer, whole or not at all.
+// Sending to the line: the record of the printer's case and column, and the codes that bytes go out as, written straight into a
+// buffer that has room for them.
 use code::Case;
 
-pub mod bursts;
 mod codes;
-pub mod items;
-mod notes;
+mod items;
+mod records;
+pub mod runs;
 
 // What the record says of the printer's case.
 pub enum Known {
@@ -43,20 +43,28 @@ pub struct Sender {
     pub last: Last,
 }
 
-// Up to sixteen codes, of which there are `count`; more are not kept.
-pub struct Burst {
-    pub codes: [u8; 16],
+// How the bytes of a stream ask for items: host text by the conversion, TU codes in the incoming reading case.
+pub enum Asks {
+    Text,
+    Codes(Case),
+}
+
+// Codes that went out: the record after them, and how many they are.
+pub struct Noted {
+    pub held: Record,
     pub count: usize,
 }
 
-// The record and the burst, while codes go out.
-pub struct Sending {
-    pub held: Record,
-    pub burst: Burst,
+// An item that went out: the sender after it, and how many codes it was.
+pub struct Item {
+    pub sender: Sender,
+    pub count: usize,
 }
 
-// The sender and the burst, after items.
+// Bytes that went out: the sender after them and how the next ones ask, how many bytes they are, and how many codes they were.
 pub struct Sent {
     pub sender: Sender,
-    pub burst: Burst,
+    pub asks: Asks,
+    pub taken: usize,
+    pub count: usize,
 }

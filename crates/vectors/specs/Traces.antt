@@ -6,8 +6,8 @@ use lib.ListN.{getD, replicate}
 use Rattle.laws.specs.Written.{fronted}
 use Rattle.settings.specs.declared.Settings.{Settings}
 use Rattle.linebox.specs.declared.State.{State}
-use Rattle.linebox.specs.declared.Stream.{Stream}
-use Rattle.linebox.specs.declared.Stream.the-variants.{Host, Line, Tu}
+use Rattle.vectors.specs.declared.traces.Stream.{Stream}
+use Rattle.vectors.specs.declared.traces.Stream.the-variants.{Host, Line, Tu}
 use Rattle.linebox.specs.declared.Answer.{Answer}
 use Rattle.linebox.specs.declared.Answer.the-variants.{All, NoRoom, NoCode, Unsound}
 use Rattle.vectors.specs.declared.text.Form.{Form}

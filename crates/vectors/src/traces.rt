@@ -7,8 +7,14 @@ use crate::text::before_bar;
 use crate::text::decode;
 use linebox::Answer;
 use linebox::State;
-use linebox::Stream;
 use settings::Settings;
+
+// Where a call's bytes come from: the host, the line or the TU.
+pub enum Stream {
+    Host,
+    Line,
+    Tu,
+}
 
 // The box, and what the next call lends and starts from.
 pub struct Bench {

@@ -10,7 +10,8 @@ use lib.ListN.{length, getD, take}
 use lib.Seq.{take-all}
 use Rattle.message.proofs.Digits.{digits-few}
 use Rattle.sheet.proofs.Stores.{words-more}
-use Rattle.laws.proofs.Filled.{Filled, free-length, filled-more}
+use Rattle.laws.specs.Written.{Filled}
+use Rattle.laws.proofs.Filled.{free-length, filled-more}
 use Rattle.sheet.specs.Words.{word, words}
 use borrow.Author.Needs.{needs}
 use Rattle.sheet.proofs.spell.Statement.{statement}

@@ -1,14 +1,21 @@
--- `linebox::calls::host` meets its contract: the call is made on what is left of the input.
+-- `linebox::calls::host` meets its contract: a sound state is taken on, and any other answered 3.
 -- Assumes nothing.
+use mathlib.Core.Path.{refl, sym, _∙_}
 use borrow.Author.Needs.{needs}
 use Rattle.linebox.proofs.calls.host.Statement.{statement}
 use Rattle.linebox.proofs.calls.host.Tie as tie
 
+is-sound-requires : tie.Need-is-sound-requires
+is-sound-requires c κs = search needs
+
 rest-requires : tie.Need-rest-requires
 rest-requires c κs = search needs
 
-run-call-requires : tie.Need-run-call-requires
-run-call-requires c κs = search needs
+take-host-requires : tie.Need-take-host-requires
+take-host-requires c κs = sym (c .before .before .before .before .is-sound .ensures) ∙ c .before .before .before .if1 .taken
+
+ended-requires : tie.Need-ended-requires
+ended-requires c κs = search needs
 
 same-length : tie.Need-same-length
 same-length c = search needs
@@ -17,7 +24,25 @@ same-length-2 : tie.Need-same-length-2
 same-length-2 c = search needs
 
 returns : tie.Need-returns
-returns c = rw (c .before .before .before .before .before .before .before .rest .ensures) at (c .before .before .before .before .run-call .ensures)
+returns c =
+    let x = c .before .before .before .before in
+    let r = x .before .before .before in
+    rw (sym (r .before .before .is-sound .ensures) ∙ r .before .if1 .taken) (rw (r .rest .ensures) at (x .take-host .ensures))
+
+returns-2 : tie.Need-returns-2
+returns-2 c =
+    let e = c .before in
+    rw (sym (e .before .is-sound .ensures) ∙ e .if1 .left, c .ended .ensures) (record { gives = refl; one = refl; two = refl })
 
 pub host-spec : {M : Type 1} → statement M
-host-spec = tie.close (tie.spec rest-requires run-call-requires same-length same-length-2 returns)
+host-spec =
+    tie.close
+    (tie.spec
+    is-sound-requires
+    rest-requires
+    take-host-requires
+    ended-requires
+    same-length
+    same-length-2
+    returns
+    returns-2)

@@ -1,27 +1,44 @@
--- `linebox::calls::tu` meets its contract: the call is made on what is left of the input.
+-- `linebox::calls::tu` meets its contract: a sound state is taken on, and any other answered 3.
 -- Assumes nothing.
+use mathlib.Core.Path.{refl, sym, _∙_}
 use borrow.Author.Needs.{needs}
 use Rattle.linebox.proofs.calls.tu.Statement.{statement}
 use Rattle.linebox.proofs.calls.tu.Tie as tie
 
+is-sound-requires : tie.Need-is-sound-requires
+is-sound-requires c κs = search needs
+
 rest-requires : tie.Need-rest-requires
 rest-requires c κs = search needs
 
-slice-aggregate-run-call : tie.Need-slice-aggregate-run-call
-slice-aggregate-run-call c = search needs
+take-tu-requires : tie.Need-take-tu-requires
+take-tu-requires c κs = sym (c .before .before .before .is-sound .ensures) ∙ c .before .before .if1 .taken
 
-run-call-requires : tie.Need-run-call-requires
-run-call-requires c κs = search needs
+ended-requires : tie.Need-ended-requires
+ended-requires c κs = search needs
 
 same-length : tie.Need-same-length
 same-length c = search needs
 
 returns : tie.Need-returns
 returns c =
-    let e = rw (c .before .before .before .before .before .before .rest .ensures) at (c .before .before .before .run-call .ensures) in
-    record { gives = e .gives; one = e .one }
+    let x = c .before .before in
+    let r = x .before .before in
+    rw (sym (r .before .before .is-sound .ensures) ∙ r .before .if1 .taken) (rw (r .rest .ensures) at (x .take-tu .ensures))
+
+returns-2 : tie.Need-returns-2
+returns-2 c =
+    let e = c .before in
+    rw (sym (e .before .is-sound .ensures) ∙ e .if1 .left, c .ended .ensures) (record { gives = refl; one = refl })
 
 pub tu-spec : {M : Type 1} → statement M
 tu-spec =
     tie.close
-    (tie.spec rest-requires slice-aggregate-run-call run-call-requires same-length returns)
+    (tie.spec
+    is-sound-requires
+    rest-requires
+    take-tu-requires
+    ended-requires
+    same-length
+    returns
+    returns-2)

@@ -1,10 +1,9 @@
 -- `linebox::sends::put_text` meets its contract: each mode has its case of `text`.
 -- Assumes nothing.
 use denote.Ref.{now}
-use Rattle.linebox.specs.Step.{asked, released}
+use Rattle.linebox.specs.Step.{released}
 use Rattle.linebox.proofs.Bytes.{puts-none}
 use Rattle.linebox.proofs.Modes.{text-as}
-use Rattle.linebox.proofs.Sent.{sent-puts, asked-few}
 use borrow.Author.Needs.{needs}
 use Rattle.linebox.proofs.sends.put_text.Statement.{statement}
 use Rattle.linebox.proofs.sends.put_text.Tie as tie
@@ -12,11 +11,8 @@ use Rattle.linebox.proofs.sends.put_text.Tie as tie
 enum-told : tie.Need-enum-told
 enum-told c = search needs
 
-send-text-requires : tie.Need-send-text-requires
-send-text-requires c κs = search needs
-
-put-sent-requires : tie.Need-put-sent-requires
-put-sent-requires c κs = search needs
+put-items-requires : tie.Need-put-items-requires
+put-items-requires c κs = search needs
 
 enum-told-2 : tie.Need-enum-told-2
 enum-told-2 c = search needs
@@ -41,12 +37,9 @@ same-length c = search needs
 
 returns : tie.Need-returns
 returns c =
-    let x = c .before .before .before .before in
-    let e = x .before in
-    let b = e .before .before .before in
-    let a = b .args in
-    rw (text-as (a .s) (released (a .slash) (a .b)) _ (e .enum-told .given .1))
-    (sent-puts (a .s) (asked (released (a .slash) (a .b))) _ _ _ _ (b .pre) (asked-few (a .slash) (a .b)) (x .send-text .ensures) (c .before .before .put-sent .ensures))
+    let e = c .before .before .before .before in
+    let a = e .before .before .before .args in
+    rw (text-as (a .s) (released (a .slash) (a .b)) _ (e .enum-told .given .1)) (c .before .before .put-items .ensures)
 
 returns-2 : tie.Need-returns-2
 returns-2 c =
@@ -68,8 +61,7 @@ put-text-spec =
     tie.close
     (tie.spec
     enum-told
-    send-text-requires
-    put-sent-requires
+    put-items-requires
     enum-told-2
     none-requires
     enum-told-3

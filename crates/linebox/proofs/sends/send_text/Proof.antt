@@ -1,40 +1,50 @@
--- `linebox::sends::send_text` meets its contract: the items of one byte or of two, one after the other.
+-- `linebox::sends::send_text` meets its contract: the held `/` is the first of the two bytes, and left out where none was held.
 -- Assumes nothing.
-use mathlib.Core.List.{append-nil}
-use Rattle.code.specs.Convert.{conversion}
-use Rattle.sender.specs.Item.{wantedOf}
-use Rattle.sender.proofs.Sends.{sent-append}
-use Rattle.linebox.specs.Byte.{starting}
 use borrow.Author.Needs.{needs}
 use Rattle.linebox.proofs.sends.send_text.Statement.{statement}
 use Rattle.linebox.proofs.sends.send_text.Tie as tie
 
-start-requires : tie.Need-start-requires
-start-requires c κs = search needs
+slice-aggregate-send : tie.Need-slice-aggregate-send
+slice-aggregate-send c = search needs
 
-text-requires : tie.Need-text-requires
-text-requires c κs = search needs
+send-requires : tie.Need-send-requires
+send-requires c κs = search needs
 
-text-requires-2 : tie.Need-text-requires-2
-text-requires-2 c κs = search needs
+sub-send : tie.Need-sub-send
+sub-send c = search needs
 
-text-requires-3 : tie.Need-text-requires-3
-text-requires-3 c κs = search needs
+part-send-start : tie.Need-part-send-start
+part-send-start c = search needs
+
+part-send-end : tie.Need-part-send-end
+part-send-end c = search needs
+
+send-requires-2 : tie.Need-send-requires-2
+send-requires-2 c κs = search needs
+
+same-length : tie.Need-same-length
+same-length c = search needs
 
 returns : tie.Need-returns
-returns c =
-    let t = c .before .before in
-    let f = t .before in
-    let a = f .before .before .args in
-    rw (t .if1 .taken, append-nil (wantedOf (conversion (a .b))), sent-append (a .s .settings) (starting (a .s)) (wantedOf (conversion 47)) (wantedOf (conversion (a .b))))
-    (rw (c .before .text .ensures, f .start .ensures) at (c .text2 .ensures))
+returns c = rw (c .before .before .before .before .before .if1 .taken) (c .before .before .send .ensures)
+
+same-length-2 : tie.Need-same-length-2
+same-length-2 c = search needs
 
 returns-2 : tie.Need-returns-2
-returns-2 c =
-    let f = c .before .before in
-    rw (c .before .if1 .left, append-nil (wantedOf (conversion (f .before .before .args .b)))) (rw (f .start .ensures) at (c .text3 .ensures))
+returns-2 c = rw (c .before .before .before .before .before .before .if1 .left) (c .before .before .send2 .ensures)
 
 pub send-text-spec : {M : Type 1} → statement M
 send-text-spec =
     tie.close
-    (tie.spec start-requires text-requires text-requires-2 text-requires-3 returns returns-2)
+    (tie.spec
+    slice-aggregate-send
+    send-requires
+    sub-send
+    part-send-start
+    part-send-end
+    send-requires-2
+    same-length
+    returns
+    same-length-2
+    returns-2)

@@ -1,0 +1,171 @@
+-- Text in mode 1 with nothing held, and TU codes in mode 4, are plain bytes.
+-- Assumes nothing.
+use Prim.Native.Nat.{ℕ, _+_, _-_, _≤_}
+use mathlib.Core.Path.{_≡_, refl, sym, ap, _∙_}
+use mathlib.Core.Bool.{Bool, true, false, _&&_, false≢true}
+use mathlib.Core.List.{List, [], _∷_, _++_, append-nil}
+use native.Mathlib.Omega.{arith}
+use native.Mathlib.Nat.{zero-add, sub-zero}
+use borrow.Author.Tests.{ltb-false}
+use lib.Dec.{eqb, ltb}
+use Rattle.laws.specs.Written.{Filled}
+use Rattle.laws.proofs.Filled.{filled-none}
+use lib.ListN.{length, drop}
+use Rattle.command.specs.declared.Stage.{Stage}
+use Rattle.command.specs.declared.Stage.the-variants as stage
+use Rattle.command.specs.Read.{read, readAt, afresh, at, idle}
+use Rattle.code.specs.Kinds.{kindOf}
+use Rattle.code.specs.Convert.{conversion}
+use Rattle.sender.specs.Item.{items, afterItems, wanted, wantedOf, incoming}
+use Rattle.sender.specs.Sends.{converted, asksNext, isSpecial, most, Run, sends, Sends}
+use Rattle.sender.specs.declared.Sent.{Sent}
+use Rattle.linebox.specs.Names.{Case, Connection, Mode1, Mode4, Mode10, Mode11, Settings, Sender, Asks, Text, Codes, One, State, Stream, Host, Tu, Ran}
+use Rattle.linebox.specs.State.{sound, withReader, withSender, withIncoming}
+use Rattle.linebox.specs.Step.{Step, sends as sent, asked, text, released, hosted, hostStep, tued, tuStep, carried, step}
+use Rattle.linebox.specs.Call.{firstOf, secondOf, refuses, fits, Done, before, taking}
+use Rattle.linebox.specs.Plain.{isText, caseOf}
+use Rattle.linebox.specs.Laws.{isMode1, isMode4}
+use Rattle.sender.proofs.Sending.{run-within, run-none}
+use Rattle.linebox.specs.Byte.{Runs}
+use Rattle.linebox.proofs.Stays.{sound-parts, parts-sound}
+use Rattle.linebox.proofs.Plainly.{Plain, one-fits, plainly}
+
+-- how text asks, and how codes do
+abbrev asText : Asks → Bool
+asText Text = true
+asText (Codes case) = false
+
+abbrev asCodes : Asks → Bool
+asCodes Text = false
+asCodes (Codes case) = true
+
+keeps-text : (o : Settings) (a : Asks) (b : ℕ) → asText a ≡ true → asText (asksNext o a b) ≡ true
+keeps-text o Text b h = h
+keeps-text o (Codes case) b h = h
+
+keeps-codes : (o : Settings) (a : Asks) (b : ℕ) → asCodes a ≡ true → asCodes (asksNext o a b) ≡ true
+keeps-codes o Text b h = h
+keeps-codes o (Codes case) b h = h
+
+-- no byte taken
+pub unmoved : (t : Stream) (s : State) (input old : List ℕ) → sound s ≡ true → Runs t s input old old (record { state = s; taken = 0; count = 0 })
+unmoved t s input old ok = record { new = []; within = omega arith; kept = ok; places = filled-none old; rest = λ room. rw (sub-zero (length old), zero-add) }
+
+-- Text.
+
+open-text : (k : Connection) (bs : List ℕ) → isMode1 k ≡ true → text k bs ≡ asked bs
+open-text (Mode1 port speed) bs h = refl
+open-text (Mode4 port speed) bs h = absurd (false≢true h)
+open-text Mode10 bs h = absurd (false≢true h)
+open-text Mode11 bs h = absurd (false≢true h)
+
+-- with nothing held, any byte but `/` is text
+reads-text : (st : Stage) (values : List ℕ) (b : ℕ) → isText st ≡ true → eqb b 47 ≡ false → readAt st values b ≡ at stage.Text (One b)
+reads-text stage.Text values b h e = rw e
+reads-text stage.Swallow values b h e = absurd (false≢true h)
+reads-text stage.Held values b h e = absurd (false≢true h)
+reads-text stage.Begun values b h e = absurd (false≢true h)
+reads-text (stage.Lettered small t) values b h e = absurd (false≢true h)
+reads-text (stage.Typed v) values b h e = absurd (false≢true h)
+reads-text (stage.Fields v f last) values b h e = absurd (false≢true h)
+reads-text stage.Discard values b h e = absurd (false≢true h)
+
+-- the state in a run of text
+abbrev pub texting : State → Sender → State
+texting s x = withSender (withReader s idle) x
+
+texting-sound : (s : State) (x : Sender) → sound s ≡ true → sound (texting s x) ≡ true
+texting-sound s x ok =
+    let p = sound-parts s ok in
+    parts-sound (texting s x) (record { held = p .held; stage = refl; eleven = refl })
+
+text-step : (s : State) (b : ℕ) → isMode1 (s .connection) ≡ true → isText (s .reader .stage) ≡ true → eqb b 47 ≡ false → hostStep s b ≡ sent (withReader s idle) (wantedOf (conversion b))
+text-step s b m h e = rw (reads-text (s .reader .stage) (s .reader .values) b h e, open-text (s .connection) (b ∷ []) m, append-nil)
+
+plain-text : (s : State) → isMode1 (s .connection) ≡ true → (x : Sender) (a : Asks) (b : ℕ) → asText a ≡ true → isSpecial a b ≡ false → Plain Host (s .settings) (λ y z. texting s y) x a b
+plain-text s m x Text b h e =
+    let u = text-step (texting s x) b m refl e in
+    record { is-taken = refl; state = rw u; first = rw u; second = rw u }
+plain-text s m x (Codes case) b h e = absurd (false≢true h)
+
+-- the first byte of a run is read as if no field had ever been
+first-same : (s : State) (xs : List ℕ) (room more : ℕ) → length (s .settings .string) ≡ 8 → isMode1 (s .connection) ≡ true → isText (s .reader .stage) ≡ true
+    → (sends (s .settings) (s .sender) Text true xs room .taken ≡ 0 → ⊥) → taking Host s xs room more ≡ taking Host (texting s (s .sender)) xs room more
+first-same s [] room more eight m h n = absurd (n refl)
+first-same s (b ∷ xs) room more eight m h n = go (eqb b 47) refl (ltb room most) refl n
+  where
+    go : (z : Bool) → eqb b 47 ≡ z → (small : Bool) → ltb room most ≡ small → (sends (s .settings) (s .sender) Text true (b ∷ xs) room .taken ≡ 0 → ⊥)
+        → taking Host s (b ∷ xs) room more ≡ taking Host (texting s (s .sender)) (b ∷ xs) room more
+    go true e true f n = absurd (n (rw f))
+    go true e false f n = absurd (n (rw (f, e)))
+    go false e true f n = absurd (n (rw f))
+    go false e false f n =
+        let p = plain-text s m (s .sender) Text b refl e in
+        let fit = one-fits Host (s .settings) eight (λ y z. texting s y) (s .sender) Text b room more p (ltb-false room most f) in
+        let u : hostStep s b ≡ hostStep (texting s (s .sender)) b = text-step s b m h e ∙ sym (text-step (texting s (s .sender)) b m refl e) in
+        rw (u, fit)
+
+module _ (s : State) (ok : sound s ≡ true) (m : isMode1 (s .connection) ≡ true) (h : isText (s .reader .stage) ≡ true) (input old now : List ℕ) (x : Sent)
+    (f : Sends (sends (s .settings) (s .sender) Text true input (length old)) old now x) where
+  abbrev d : Run
+  d = sends (s .settings) (s .sender) Text true input (length old)
+
+  -- no byte was sent
+  pub text-none : x .taken ≡ 0 → Runs Host s input old now (record { state = s; taken = 0; count = 0 })
+  text-none z =
+      let none : d .codes ≡ [] = run-none (s .settings) (s .sender) Text true input (length old) (sym (ap (λ (u : Sent). u .taken) (f .gives)) ∙ z) in
+      let same : now ≡ old = rw none at (f .places .places) in
+      rw same (unmoved Host s input old ok)
+
+  -- some were
+  pub text-runs : (x .taken ≡ 0 → ⊥) → Runs Host s input old now (record { state = texting s (x .sender); taken = x .taken; count = x .count })
+  text-runs z =
+      let eight = sound-parts s ok .held .places in
+      let n : d .taken ≡ 0 → ⊥ = λ e. z (ap (λ (u : Sent). u .taken) (f .gives) ∙ e) in
+      rw (f .gives) (record {
+        new = d .codes;
+        within = run-within (s .settings) (s .sender) Text true input (length old);
+        kept = texting-sound s (d .sender) ok;
+        places = rw (f .gives) at (f .places);
+        rest =
+            λ room.
+            first-same s input (length old) room eight m h n
+            ∙ plainly Host (s .settings) eight (λ y z. texting s y) asText (keeps-text (s .settings)) (plain-text s m) input (s .sender) Text (length old) room refl;
+      })
+
+-- TU codes.
+
+-- the state in a run of codes
+abbrev pub coding : State → Sender → Asks → State
+coding s x a = withSender (withIncoming s (caseOf a)) x
+
+open-codes : (k : Connection) (s : State) (c : ℕ) → isMode4 k ≡ true → tued k s c ≡ carried s c
+open-codes (Mode1 port speed) s c h = absurd (false≢true h)
+open-codes (Mode4 port speed) s c h = refl
+open-codes Mode10 s c h = absurd (false≢true h)
+open-codes Mode11 s c h = absurd (false≢true h)
+
+plain-codes : (s : State) → isMode4 (s .connection) ≡ true → (x : Sender) (a : Asks) (b : ℕ) → asCodes a ≡ true → isSpecial a b ≡ false → Plain Tu (s .settings) (coding s) x a b
+plain-codes s m x Text b h e = absurd (false≢true h)
+plain-codes s m x (Codes case) b h e =
+    let u = open-codes (s .connection) (coding s x (Codes case)) b m in
+    record { is-taken = e; state = rw u; first = rw u; second = refl }
+
+coding-sound : (s : State) (x : Sender) (a : Asks) → sound s ≡ true → sound (coding s x a) ≡ true
+coding-sound s x a ok =
+    let p = sound-parts s ok in
+    parts-sound (coding s x a) (record { held = p .held; stage = p .stage; eleven = p .eleven })
+
+pub codes-run : (s : State) (ok : sound s ≡ true) (m : isMode4 (s .connection) ≡ true) (input old now : List ℕ) (x : Sent)
+    → Sends (sends (s .settings) (s .sender) (Codes (s .incoming)) true input (length old)) old now x
+    → Runs Tu s input old now (record { state = coding s (x .sender) (x .asks); taken = x .taken; count = x .count })
+codes-run s ok m input old now x f =
+    let eight = sound-parts s ok .held .places in
+    let d = sends (s .settings) (s .sender) (Codes (s .incoming)) true input (length old) in
+    rw (f .gives) (record {
+      new = d .codes;
+      within = run-within (s .settings) (s .sender) (Codes (s .incoming)) true input (length old);
+      kept = coding-sound s (d .sender) (d .asks) ok;
+      places = rw (f .gives) at (f .places);
+      rest = λ room. plainly Tu (s .settings) eight (coding s) asCodes (keeps-codes (s .settings)) (plain-codes s m) input (s .sender) (Codes (s .incoming)) (length old) room refl;
+    })

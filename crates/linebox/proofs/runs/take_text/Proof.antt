@@ -1,0 +1,43 @@
+-- `linebox::runs::take_text` meets its contract: in mode 1 with nothing held text runs, and else no byte is taken.
+-- Assumes nothing.
+use denote.Ref.{now}
+use Rattle.linebox.specs.Names.{Host}
+use Rattle.linebox.proofs.PlainText.{unmoved}
+use borrow.Author.Needs.{needs}
+use Rattle.linebox.proofs.runs.take_text.Statement.{statement}
+use Rattle.linebox.proofs.runs.take_text.Tie as tie
+
+is-mode1-requires : tie.Need-is-mode1-requires
+is-mode1-requires c κs = search needs
+
+is-text-requires : tie.Need-is-text-requires
+is-text-requires c κs = search needs
+
+run-text-requires : tie.Need-run-text-requires
+run-text-requires c κs = search needs
+
+same-length : tie.Need-same-length
+same-length c = search needs
+
+returns : tie.Need-returns
+returns c = search needs
+
+unmoved-requires : tie.Need-unmoved-requires
+unmoved-requires c κs = search needs
+
+returns-2 : tie.Need-returns-2
+returns-2 c =
+    let b = c .before .before .before .before .before .before in
+    rw (c .unmoved .ensures) (unmoved Host (b .args .s) (now (b .args .input)) (now (b .args .line)) (b .pre))
+
+pub take-text-spec : {M : Type 1} → statement M
+take-text-spec =
+    tie.close
+    (tie.spec
+    is-mode1-requires
+    is-text-requires
+    run-text-requires
+    same-length
+    returns
+    unmoved-requires
+    returns-2)

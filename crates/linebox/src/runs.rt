@@ -1,0 +1,134 @@
+// Runs of plain bytes, written straight into the free part of the line buffer: text in mode 1, TU codes in mode 4.
+ghost use mathlib.Core.Path.{_≡_};
+ghost use mathlib.Core.Bool.{true};
+ghost use Rattle.linebox.specs.Names.{Host as Names·Host, Tu as Names·Tu};
+ghost use Rattle.linebox.specs.State.{sound};
+ghost use Rattle.linebox.specs.Byte.{Runs};
+ghost use Rattle.linebox.specs.Plain.{isText};
+ghost use Rattle.linebox.specs.Laws.{isMode1, isMode4};
+use crate::Ran;
+use crate::State;
+use crate::sends::case_of;
+use crate::states::with_incoming;
+use crate::states::with_reader;
+use crate::states::with_sender;
+use command::Reader;
+use command::Stage;
+use sender::Asks;
+use settings::Connection;
+
+// Whether the command reader holds nothing.
+fn is_text(stage: Stage) -> bool
+    ensures { λ r. ⌜ r ≡ isText stage ⌝ }
+{
+    match stage {
+        Stage::Text => true,
+        Stage::Swallow => false,
+        Stage::Held => false,
+        Stage::Begun => false,
+        Stage::Lettered(_, _) => false,
+        Stage::Typed(_) => false,
+        Stage::Fields(_, _, _) => false,
+        Stage::Discard => false,
+    }
+}
+
+// Whether host text goes to the line.
+fn is_mode1(connection: Connection) -> bool
+    ensures { λ r. ⌜ r ≡ isMode1 connection ⌝ }
+{
+    match connection {
+        Connection::Mode1(_, _) => true,
+        Connection::Mode4(_, _) => false,
+        Connection::Mode10 => false,
+        Connection::Mode11 => false,
+    }
+}
+
+// Whether TU codes go to the printer.
+fn is_mode4(connection: Connection) -> bool
+    ensures { λ r. ⌜ r ≡ isMode4 connection ⌝ }
+{
+    match connection {
+        Connection::Mode1(_, _) => false,
+        Connection::Mode4(_, _) => true,
+        Connection::Mode10 => false,
+        Connection::Mode11 => false,
+    }
+}
+
+// No byte taken.
+fn unmoved(s: State) -> Ran
+    ensures { λ r. ⌜ r ≡ record { state = s; taken = 0; count = 0 } ⌝ }
+{
+    Ran {
+        state: s,
+        taken: 0,
+        count: 0,
+    }
+}
+
+// Plain text to a line in mode 1.
+fn run_text(s: State, input: &[u8], line: &mut [u8]) -> Ran
+    requires { ⌜ (sound s ≡ true) × (isMode1 (s .connection) ≡ true) × (isText (s .reader .stage) ≡ true) ⌝ }
+    ensures { λ r. ⌜ Runs Names·Host s (now (input .entry)) (now (line .entry)) (now (line .exit)) r ⌝ }
+{
+    let settings = s.settings;
+    let sender = s.sender;
+    let x = sender::runs::send(settings, sender, Asks::Text, true, input, line);
+    let after = x.sender;
+    if x.taken == 0 {
+        return unmoved(s);
+    }
+    Ran {
+        state: with_sender(with_reader(s, Reader::idle()), after),
+        taken: x.taken,
+        count: x.count,
+    }
+}
+
+// The plain text that comes next, as far as there is surely room.
+pub fn take_text(s: State, input: &[u8], line: &mut [u8]) -> Ran
+    requires { ⌜ sound s ≡ true ⌝ }
+    ensures { λ r. ⌜ Runs Names·Host s (now (input .entry)) (now (line .entry)) (now (line .exit)) r ⌝ }
+{
+    let connection = s.connection;
+    let reader = s.reader;
+    let stage = reader.stage;
+    if is_mode1(connection) {
+        if is_text(stage) {
+            return run_text(s, input, line);
+        }
+    }
+    unmoved(s)
+}
+
+// TU codes to the printer in mode 4.
+fn run_codes(s: State, codes: &[u8], line: &mut [u8]) -> Ran
+    requires { ⌜ (sound s ≡ true) × (isMode4 (s .connection) ≡ true) ⌝ }
+    ensures { λ r. ⌜ Runs Names·Tu s (now (codes .entry)) (now (line .entry)) (now (line .exit)) r ⌝ }
+{
+    let settings = s.settings;
+    let sender = s.sender;
+    let case = s.incoming;
+    let x = sender::runs::send(settings, sender, Asks::Codes(case), true, codes, line);
+    let after = x.sender;
+    let asks = x.asks;
+    Ran {
+        state: with_sender(with_incoming(s, case_of(asks)), after),
+        taken: x.taken,
+        count: x.count,
+    }
+}
+
+// The TU codes that come next, as far as there is surely room.
+pub fn take_codes(s: State, codes: &[u8], line: &mut [u8]) -> Ran
+    requires { ⌜ sound s ≡ true ⌝ }
+    ensures { λ r. ⌜ Runs Names·Tu s (now (codes .entry)) (now (line .entry)) (now (line .exit)) r ⌝ }
+{
+    let connection = s.connection;
+    if is_mode4(connection) {
+        return run_codes(s, codes, line);
+    }
+    unmoved(s)
+}

@@ -1,0 +1,113 @@
+-- The loop over bytes that go out: what is reached after some of them, and one turn more.
+-- Assumes nothing.
+use Prim.Native.Nat.{ℕ, suc, _+_, _-_, _≤_, _<_}
+use mathlib.Core.Path.{_≡_, refl, sym, ap, _∙_}
+use mathlib.Core.Bool.{Bool, true, false, cond, _&&_, false≢true, true≢false}
+use lib.Dec.{ltb}
+use mathlib.Core.List.{List, [], _∷_, _++_, append-nil, append-assoc}
+use native.Mathlib.Omega.{arith}
+use native.Mathlib.Numerals.{add-one}
+use native.Mathlib.Nat.{zero-add, add-zero, sub-zero}
+use borrow.Rule.Slice.PartMut.{putMid, midOf}
+use borrow.Author.Tests.{lt-ltb, le-ltb}
+use lib.ListN.{length, getD, drop, drop-of-length-le}
+use lib.Seq.{drop-cons}
+use Rattle.laws.specs.Written.{Filled}
+use Rattle.laws.proofs.Filled.{filled-none, filled-on}
+use Rattle.sender.specs.Names.{Conversion, Nothing, Free, Cased, Settings, Sender, Asks, Item}
+use Rattle.sender.specs.Item.{items, afterItems, wantedOf}
+use Rattle.sender.specs.Sends.{converted, isNone, wantedAs, asksNext, isSpecial, most, Run, stopped, onward, sends, Puts, Sends}
+
+-- where there is a code, it is the one item
+pub one-wanted : (x : Conversion) → isNone x ≡ false → wantedOf x ≡ wantedAs x ∷ []
+one-wanted Nothing e = absurd (true≢false e)
+one-wanted (Free c) e = refl
+one-wanted (Cased case c) e = refl
+
+-- and else there is none
+pub none-wanted : (x : Conversion) → isNone x ≡ true → wantedOf x ≡ []
+none-wanted Nothing e = refl
+none-wanted (Free c) e = absurd (false≢true e)
+none-wanted (Cased case c) e = absurd (false≢true e)
+
+-- n bytes sent as p, before the rest
+abbrev before : ℕ → List ℕ → Run → Run
+before n p d = record { sender = d .sender; asks = d .asks; taken = n + d .taken; codes = p ++ d .codes }
+
+-- a byte more before the rest
+moved : (n : ℕ) (p cs : List ℕ) (d : Run) → before n p (onward cs d) ≡ before (n + 1) (p ++ cs) d
+moved n p cs d =
+    let u : n + suc (d .taken) ≡ n + 1 + d .taken = omega arith in
+    rw (u, append-assoc p cs (d .codes))
+
+-- where the loop is: n bytes are sent as p, and the rest is still to come
+pub record Sending (o : Settings) (start : Sender) (first : Asks) (plain : Bool) (bytes old : List ℕ) (s : Sender) (asks : Asks) (n : ℕ) (now : List ℕ) (k : ℕ) : Type 0 where
+  pub p : List ℕ
+  pub within : n ≤ length bytes
+  pub places : Filled old now p k
+  pub rest : sends o start first plain bytes (length old) ≡ before n p (sends o s asks plain (drop n bytes) (length old - k))
+
+module _ (o : Settings) (start : Sender) (first : Asks) (plain : Bool) (bytes old : List ℕ) where
+  pub sending : Sending o start first plain bytes old start first 0 old 0
+  sending = record { p = []; within = omega arith; places = filled-none old; rest = rw (sub-zero (length old), zero-add) }
+
+  module _ (s : Sender) (asks : Asks) (n : ℕ) (now : List ℕ) (k : ℕ) (e : Sending o start first plain bytes old s asks n now k) where
+    stops : sends o s asks plain (drop n bytes) (length old - k) ≡ stopped s asks
+        → Sends (sends o start first plain bytes (length old)) old now (record { sender = s; asks = asks; taken = n; count = k })
+    stops h = rw (e .rest, h) (record { gives = rw (add-zero, append-nil, e .places .count); places = rw append-nil (e .places) })
+
+    pub all-sent : length bytes ≤ n → Sends (sends o start first plain bytes (length old)) old now (record { sender = s; asks = asks; taken = n; count = k })
+    all-sent h = stops (rw (drop-of-length-le bytes h))
+
+    module _ (lt : n < length bytes) where
+      pub no-room : length now - k < most → Sends (sends o start first plain bytes (length old)) old now (record { sender = s; asks = asks; taken = n; count = k })
+      no-room h =
+          let u : length old - k < most = omega (arith, e .places .same-length) in
+          stops (rw (drop-cons bytes n 0 lt, lt-ltb (length old - k) most u))
+
+      pub at-special : most ≤ length now - k → (plain && isSpecial asks (getD bytes n 0)) ≡ true → Sends (sends o start first plain bytes (length old)) old now (record { sender = s; asks = asks; taken = n; count = k })
+      at-special h z =
+          let u : most ≤ length old - k = omega (arith, e .places .same-length) in
+          stops (rw (drop-cons bytes n 0 lt, le-ltb (length old - k) most u, z))
+
+      -- one byte more
+      pub sends-on : most ≤ length now - k → (plain && isSpecial asks (getD bytes n 0)) ≡ false → (ys : List ℕ) (x : Item) → Puts o s (wantedOf (converted asks (getD bytes n 0))) (midOf k (length now - k) now) ys x
+          → Sending o start first plain bytes old (x .sender) (asksNext o asks (getD bytes n 0)) (n + 1) (putMid k (length now - k) now ys) (k + x .count)
+      sends-on h z ys x f =
+          let b = getD bytes n 0 in
+          let ws = wantedOf (converted asks b) in
+          let cs = items o s ws in
+          let a = length old - k in
+          let u : most ≤ a = omega (arith, e .places .same-length) in
+          let v : a - length cs ≡ length old - (k + x .count) = omega (arith, f .places .count) in
+          let turn : sends o s asks plain (drop n bytes) a ≡ onward cs (sends o (afterItems o s ws) (asksNext o asks b) plain (drop (n + 1) bytes) (a - length cs)) = rw (drop-cons bytes n 0 lt, le-ltb a most u, z, add-one) in
+          record {
+            p = e .p ++ cs;
+            within = omega arith;
+            places = filled-on old now (e .p) cs ys k (x .count) (e .places) (f .places);
+            rest = e .rest ∙ ap (before n (e .p)) turn ∙ moved n (e .p) cs _ ∙ rw (f .sender, v);
+          }
+
+-- no more bytes than there are
+pub run-within : (o : Settings) (s : Sender) (asks : Asks) (plain : Bool) (bs : List ℕ) (room : ℕ) → sends o s asks plain bs room .taken ≤ length bs
+run-within o s asks plain [] room = omega arith
+run-within o s asks plain (b ∷ bs) room = go (ltb room most) (plain && isSpecial asks b) (run-within o _ _ plain bs _)
+  where
+    go : (small special : Bool)
+        → (let ws = wantedOf (converted asks b) in sends o (afterItems o s ws) (asksNext o asks b) plain bs (room - length (items o s ws)) .taken ≤ length bs)
+        → (let ws = wantedOf (converted asks b) in cond small (stopped s asks) (cond special (stopped s asks) (onward (items o s ws) (sends o (afterItems o s ws) (asksNext o asks b) plain bs (room - length (items o s ws))))) .taken) ≤ length (b ∷ bs)
+    go true special h = omega arith
+    go false true h = omega arith
+    go false false h = omega (arith, h)
+
+-- no bytes, no codes
+pub run-none : (o : Settings) (s : Sender) (asks : Asks) (plain : Bool) (bs : List ℕ) (room : ℕ) → sends o s asks plain bs room .taken ≡ 0 → sends o s asks plain bs room .codes ≡ []
+run-none o s asks plain [] room e = refl
+run-none o s asks plain (b ∷ bs) room e = go (ltb room most) (plain && isSpecial asks b) e
+  where
+    go : (small special : Bool)
+        → let ws = wantedOf (converted asks b) in
+        let d = cond small (stopped s asks) (cond special (stopped s asks) (onward (items o s ws) (sends o (afterItems o s ws) (asksNext o asks b) plain bs (room - length (items o s ws))))) in d .taken ≡ 0 → d .codes ≡ []
+    go true special e = refl
+    go false true e = refl
+    go false false e = absurd (omega (arith, e))

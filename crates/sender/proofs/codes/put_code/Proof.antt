@@ -1,0 +1,85 @@
+-- `sender::codes::put_code` meets its contract: a code is led by a shift, followed by LTRS, or alone.
+-- Assumes nothing.
+use denote.Ref.{now}
+use native.Mathlib.Omega.{arith}
+use Rattle.laws.proofs.Filled.{filled-one, filled-two}
+use Rattle.sender.proofs.Shifted.{led, followed, alone}
+use borrow.Author.Needs.{needs}
+use Rattle.sender.proofs.codes.put_code.Statement.{statement}
+use Rattle.sender.proofs.codes.put_code.Tie as tie
+
+is-led-requires : tie.Need-is-led-requires
+is-led-requires c κs = search needs
+
+shift-to-requires : tie.Need-shift-to-requires
+shift-to-requires c κs = search needs
+
+slice-write-out : tie.Need-slice-write-out
+slice-write-out c = search needs
+
+slice-write-out-2 : tie.Need-slice-write-out-2
+slice-write-out-2 c = search needs
+
+same-length : tie.Need-same-length
+same-length c = search needs
+
+returns : tie.Need-returns
+returns c =
+    let a = c .before .before .before .before .args in
+    let e = rw (c .before .if1 .taken) at (c .before .before .is-led .ensures) in
+    rw (led (a .o) (a .n) (a .want) (a .k) (a .c) e, c .shift-to .ensures) (filled-two (now (a .out)) _ (a .c) (c .before .before .before .before .pre))
+
+slice-write-out-3 : tie.Need-slice-write-out-3
+slice-write-out-3 c = search needs
+
+is-followed-requires : tie.Need-is-followed-requires
+is-followed-requires c κs = search needs
+
+shift-to-requires-2 : tie.Need-shift-to-requires-2
+shift-to-requires-2 c κs = search needs
+
+slice-write-out-4 : tie.Need-slice-write-out-4
+slice-write-out-4 c = search needs
+
+same-length-2 : tie.Need-same-length-2
+same-length-2 c = search needs
+
+returns-2 : tie.Need-returns-2
+returns-2 c =
+    let f = c .before .before in
+    let l = f .before .before in
+    let a = l .before .before .args in
+    let e = rw (f .before .if1 .left) at (l .is-led .ensures) in
+    let g = rw (c .before .if2 .taken) at (f .is-followed .ensures) in
+    rw (followed (a .o) (a .n) (a .want) (a .k) (a .c) e g, c .shift-to2 .ensures) (filled-two (now (a .out)) (a .c) _ (l .before .before .pre))
+
+same-length-3 : tie.Need-same-length-3
+same-length-3 c = search needs
+
+returns-3 : tie.Need-returns-3
+returns-3 c =
+    let f = c .before in
+    let l = f .before .before in
+    let a = l .before .before .args in
+    let e = rw (f .before .if1 .left) at (l .is-led .ensures) in
+    let g = rw (c .if2 .left) at (f .is-followed .ensures) in
+    rw (alone (a .o) (a .n) (a .want) (a .k) (a .c) e g) (filled-one (now (a .out)) (a .c) (omega (arith, l .before .before .pre)))
+
+pub put-code-spec : {M : Type 1} → statement M
+put-code-spec =
+    tie.close
+    (tie.spec
+    is-led-requires
+    shift-to-requires
+    slice-write-out
+    slice-write-out-2
+    same-length
+    returns
+    slice-write-out-3
+    is-followed-requires
+    shift-to-requires-2
+    slice-write-out-4
+    same-length-2
+    returns-2
+    same-length-3
+    returns-3)

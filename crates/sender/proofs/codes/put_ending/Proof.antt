@@ -1,0 +1,122 @@
+-- `sender::codes::put_ending` meets its contract. The invariant: the codes sent so far stand before the rest of the string, at most two for
+-- each of the string's.
+-- Assumes nothing.
+use Prim.Native.Nat.{_≤_, _<_, _+_, _-_}
+use mathlib.Core.Path.{_≡_, refl}
+use native.Mathlib.Omega.{arith}
+use denote.Ref.{now}
+use lib.ListN.{length}
+use Rattle.laws.proofs.Filled.{free-length}
+use Rattle.sender.proofs.Endings.{Ending, ending-start, ending-zero, ending-over, ending-turn}
+use borrow.Author.Needs.{needs}
+use Rattle.sender.proofs.codes.put_ending.Statement.{statement}
+use Rattle.sender.proofs.codes.put_ending.Tie as tie
+
+abbrev Inv-loop : tie.InvT-loop
+Inv-loop o out₀ string held₀ count₀ i₀ out held count i = (16 ≤ length out₀) × Ending o held₀ string out₀ held i out count
+
+abbrev μ-loop : tie.MeasureT-loop
+μ-loop o out₀ string held₀ count₀ i₀ out held count i = 8 - i
+
+loop-holds : tie.Need-loop-holds Inv-loop μ-loop
+loop-holds c =
+    let a = c .before .args in
+    (c .before .pre, ending-start (a .o) (a .start) _ (now (a .out)))
+
+array-read-c : tie.Need-array-read-c Inv-loop μ-loop
+array-read-c c = search needs
+
+same-length : tie.Need-same-length Inv-loop μ-loop
+same-length c = search needs
+
+returns : tie.Need-returns Inv-loop μ-loop
+returns c =
+    let l = c .before .before .loop in
+    let b = c .before .before .before .before in
+    let a = b .args in
+    let n : length (a .t3) ≡ 8 = b .good .1 .1 .0 .1 .0 .1 in
+    let h : l .i < length (a .t3) = omega (arith, n, c .before .loop-test .taken) in
+    (omega (arith, l .inv .1 .few, l .inv .1 .within), ending-zero (a .o) (a .start) (a .t3) (now (a .out)) (l .held) (l .i) (l .out) (l .count) (l .inv .1) h (c .if1 .taken))
+
+on-record-requires : tie.Need-on-record-requires Inv-loop μ-loop
+on-record-requires c κs = search needs
+
+kind-of-requires : tie.Need-kind-of-requires Inv-loop μ-loop
+kind-of-requires c κs = search needs
+
+sub-put-code : tie.Need-sub-put-code Inv-loop μ-loop
+sub-put-code c = search needs
+
+part-put-code-start : tie.Need-part-put-code-start Inv-loop μ-loop
+part-put-code-start c = search needs
+
+part-put-code-end : tie.Need-part-put-code-end Inv-loop μ-loop
+part-put-code-end c = search needs
+
+put-code-requires : tie.Need-put-code-requires Inv-loop μ-loop
+put-code-requires c κs =
+    let m = c .before .before .before .before .before in
+    let l = m .loop in
+    rw (free-length (l .out) (l .count)) (omega (arith, l .inv .0, l .inv .1 .few, l .inv .1 .places .same-length, c .before .before .before .before .loop-test .taken))
+
+after-requires : tie.Need-after-requires Inv-loop μ-loop
+after-requires c κs = search needs
+
+add-count : tie.Need-add-count Inv-loop μ-loop
+add-count c = search needs
+
+add-i : tie.Need-add-i Inv-loop μ-loop
+add-i c = search needs
+
+loop-less : tie.Need-loop-less Inv-loop μ-loop
+loop-less c = search needs
+
+loop-again : tie.Need-loop-again Inv-loop μ-loop
+loop-again c =
+    let p = c .before .before .before in
+    let k = p .before .before in
+    let e = k .before .before in
+    let m = e .before .before in
+    let l = m .loop in
+    let b = m .before .before in
+    let a = b .args in
+    let n : length (a .t3) ≡ 8 = b .good .1 .1 .0 .1 .0 .1 in
+    let h : l .i < length (a .t3) = omega (arith, n, e .before .loop-test .taken) in
+    rw (c .after .ensures, k .before .on-record .ensures, k .kind-of .ensures)
+    (l .inv .0, ending-turn (a .o) (a .start) (a .t3) (now (a .out)) (l .held) (l .i) (l .out) (l .count) (l .inv .1) (e .before .loop-test .taken) h (e .if1 .left) _ _ (rw (k .before .on-record .ensures, k .kind-of .ensures) at (p .put-code .ensures)))
+
+same-length-2 : tie.Need-same-length-2 Inv-loop μ-loop
+same-length-2 c = search needs
+
+returns-2 : tie.Need-returns-2 Inv-loop μ-loop
+returns-2 c =
+    let l = c .before .loop in
+    let b = c .before .before .before in
+    let a = b .args in
+    let n : length (a .t3) ≡ 8 = b .good .1 .1 .0 .1 .0 .1 in
+    let h : length (a .t3) ≤ l .i = omega (arith, n, c .loop-test .left) in
+    (omega (arith, l .inv .1 .few, l .inv .1 .within), ending-over (a .o) (a .start) (a .t3) (now (a .out)) (l .held) (l .i) (l .out) (l .count) (l .inv .1) h)
+
+pub put-ending-spec : {M : Type 1} → statement M
+put-ending-spec =
+    tie.close
+    (tie.spec
+    Inv-loop
+    μ-loop
+    loop-holds
+    array-read-c
+    same-length
+    returns
+    on-record-requires
+    kind-of-requires
+    sub-put-code
+    part-put-code-start
+    part-put-code-end
+    put-code-requires
+    after-requires
+    add-count
+    add-i
+    loop-less
+    loop-again
+    same-length-2
+    returns-2)

@@ -1,0 +1,26 @@
+-- `sender::runs::convert_as` meets its contract: the table lent has what the conversion gives.
+-- Assumes nothing.
+use mathlib.Core.Path.{_∙_}
+use borrow.Author.Needs.{needs}
+use Rattle.sender.proofs.runs.convert_as.Statement.{statement}
+use Rattle.sender.proofs.runs.convert_as.Tie as tie
+
+enum-told : tie.Need-enum-told
+enum-told c = search needs
+
+look-up-requires : tie.Need-look-up-requires
+look-up-requires c κs = search needs
+
+enum-known-asks : tie.Need-enum-known-asks
+enum-known-asks c = search needs
+
+returns : tie.Need-returns
+returns c =
+    let b = c .before .before .before .before in
+    rw (c .before .enum-told .given .1) (c .look-up .ensures ∙ b .pre .entry (b .args .b) (search needs))
+
+returns-2 : tie.Need-returns-2
+returns-2 c = simp (c .before .asks .given .1)
+
+pub convert-as-spec : {M : Type 1} → statement M
+convert-as-spec = tie.close (tie.spec enum-told look-up-requires enum-known-asks returns returns-2)

@@ -1,0 +1,82 @@
+-- Bytes that go out as codes, written straight into a buffer.
+use Prim.Native.Nat.{ℕ, suc, _-_}
+use mathlib.Core.Path.{_≡_}
+use mathlib.Core.Bool.{Bool, true, false, cond, _&&_}
+use mathlib.Core.List.{List, [], _∷_, _++_}
+use lib.Dec.{eqb, ltb}
+use lib.ListN.{length}
+use Rattle.laws.specs.Written.{fronted, Filled}
+use Rattle.code.specs.Kinds.{kindOf}
+use Rattle.code.specs.Convert.{conversion}
+use Rattle.sender.specs.Names.{Letters, Conversion, Nothing, Free, Cased, Settings, Record, Wanted, Sender, Asks, Text, Codes, Noted, Item, Sent}
+use Rattle.sender.specs.Record.{notes}
+use Rattle.sender.specs.Item.{items, afterItems, wanted, wantedOf, incoming}
+
+-- codes at the front of a buffer, each noted in the record
+pub record Notes (o : Settings) (start : Record) (codes old now : List ℕ) (r : Noted) : Type 0 where
+  pub held : r .held ≡ notes o start codes
+  pub places : Filled old now codes (r .count)
+
+-- items at the front of a buffer
+pub record Puts (o : Settings) (s : Sender) (ws : List Wanted) (old now : List ℕ) (r : Item) : Type 0 where
+  pub sender : r .sender ≡ afterItems o s ws
+  pub places : Filled old now (items o s ws) (r .count)
+
+-- what a byte stands for: text by the conversion, a TU code in the incoming reading case
+abbrev pub converted : Asks → ℕ → Conversion
+converted Text b = conversion b
+converted (Codes case) c = Cased case c
+
+-- whether it has no code
+abbrev pub isNone : Conversion → Bool
+isNone Nothing = true
+isNone (Free c) = false
+isNone (Cased case c) = false
+
+-- the code with the case that it wants, where there is one
+abbrev pub wantedAs : Conversion → Wanted
+wantedAs Nothing = wanted Letters 0
+wantedAs (Free c) = wanted Letters c
+wantedAs (Cased case c) = wanted case c
+
+-- how the next byte asks
+abbrev pub asksNext : Settings → Asks → ℕ → Asks
+asksNext o Text b = Text
+asksNext o (Codes case) c = Codes (incoming o case (kindOf c))
+
+-- a `/` may begin a command, and over 31 there is no code
+abbrev pub isSpecial : Asks → ℕ → Bool
+isSpecial Text b = eqb b 47
+isSpecial (Codes case) c = ltb 31 c
+
+-- no byte goes out as more codes: eight of string 90 and the byte's own, each with a shift
+abbrev pub most : ℕ
+most = 18
+
+-- bytes that went out: the sender after them and how the next ones ask, how many they are, and their codes
+pub record Run : Type 0 where
+  pub sender : Sender
+  pub asks : Asks
+  pub taken : ℕ
+  pub codes : List ℕ
+
+abbrev pub stopped : Sender → Asks → Run
+stopped s asks = record { sender = s; asks = asks; taken = 0; codes = [] }
+
+-- one byte's codes, and then the others
+abbrev pub onward : List ℕ → Run → Run
+onward cs d = record { sender = d .sender; asks = d .asks; taken = suc (d .taken); codes = cs ++ d .codes }
+
+-- the bytes one after the other, as long as the buffer has room for whatever one may be, and up to a special one where plain ones
+-- are asked for
+abbrev pub sends : Settings → Sender → Asks → Bool → List ℕ → ℕ → Run
+sends o s asks plain [] room = stopped s asks
+sends o s asks plain (b ∷ bs) room =
+    let ws = wantedOf (converted asks b) in
+    cond (ltb room most) (stopped s asks)
+    (cond (plain && isSpecial asks b) (stopped s asks) (onward (items o s ws) (sends o (afterItems o s ws) (asksNext o asks b) plain bs (room - length (items o s ws)))))
+
+-- what the caller is told of it, and the buffer
+pub record Sends (d : Run) (old now : List ℕ) (r : Sent) : Type 0 where
+  pub gives : r ≡ record { sender = d .sender; asks = d .asks; taken = d .taken; count = length (d .codes) }
+  pub places : Filled old now (d .codes) (r .count)

@@ -1,0 +1,169 @@
+// Bytes sent one after the other, as long as the buffer has room for whatever the next may be.
+ghost use mathlib.Core.Path.{_≡_};
+ghost use mathlib.Core.Bool.{_&&_};
+ghost use Prim.Native.Nat.{_≤_, _<_};
+ghost use lib.ListN.{length};
+ghost use Rattle.convert.specs.Entry.{Tabled};
+ghost use Rattle.sender.specs.Item.{wantedOf, unshiftedBy, incoming};
+ghost use Rattle.sender.specs.Sends.{converted, isNone, wantedAs, asksNext, isSpecial, most, Puts, sends, Sends};
+use crate::Asks;
+use crate::Item;
+use crate::Sender;
+use crate::Sent;
+use crate::Wanted;
+use crate::items::put_item;
+use code::Case;
+use code::Conversion;
+use code::Kind;
+use settings::Settings;
+
+// Letters where the option is on, and else the case as it was.
+fn unshifted_by(on: bool, case: Case) -> Case
+    ensures { λ r. ⌜ r ≡ unshiftedBy on case ⌝ }
+{
+    if on { Case::Letters } else { case }
+}
+
+// Mode 4's incoming reading case after a code of this kind.
+fn incoming(o: Settings, case: Case, k: Kind) -> Case
+    ensures { λ r. ⌜ r ≡ incoming o case k ⌝ }
+{
+    match k {
+        Kind::Still => case,
+        Kind::Space => unshifted_by(o.onspace, case),
+        Kind::Return => unshifted_by(o.onreturn, case),
+        Kind::Shift(to) => to,
+        Kind::Char(_) => case,
+    }
+}
+
+// How the byte after this one asks.
+fn next_asks(o: Settings, asks: Asks, b: u8) -> Asks
+    ensures { λ r. ⌜ r ≡ asksNext o asks b ⌝ }
+{
+    match asks {
+        Asks::Text => Asks::Text,
+        Asks::Codes(case) => Asks::Codes(incoming(o, case, code::kind_of(b))),
+    }
+}
+
+// What a byte stands for: text by the table lent, a TU code in the incoming reading case.
+fn convert_as(asks: Asks, table: &[u8], b: u8) -> Conversion
+    requires { ⌜ Tabled (now table) ⌝ }
+    ensures { λ r. ⌜ r ≡ converted asks b ⌝ }
+{
+    match asks {
+        Asks::Text => convert::look_up(table, b),
+        Asks::Codes(case) => Conversion::Cased(case, b),
+    }
+}
+
+// Whether there is no code.
+fn is_none(x: Conversion) -> bool
+    ensures { λ r. ⌜ r ≡ isNone x ⌝ }
+{
+    match x {
+        Conversion::Nothing => true,
+        Conversion::Free(_) => false,
+        Conversion::Cased(_, _) => false,
+    }
+}
+
+// The code with the case that it wants, where there is one.
+fn wanted_as(x: Conversion) -> Wanted
+    ensures { λ r. ⌜ r ≡ wantedAs x ⌝ }
+{
+    match x {
+        Conversion::Nothing => Wanted {
+            case: Case::Letters,
+            code: 0,
+        },
+        Conversion::Free(c) => Wanted {
+            case: Case::Letters,
+            code: c,
+        },
+        Conversion::Cased(case, c) => Wanted { case, code: c },
+    }
+}
+
+// Whether a byte is special: a `/` in text, or no code.
+fn is_special(asks: Asks, b: u8) -> bool
+    ensures { λ r. ⌜ r ≡ isSpecial asks b ⌝ }
+{
+    match asks {
+        Asks::Text => b == b'/',
+        Asks::Codes(_) => 31 < b,
+    }
+}
+
+// Whether a run of bytes stops here, where plain ones are asked for.
+fn stops(plain: bool, asks: Asks, b: u8) -> bool
+    ensures { λ r. ⌜ r ≡ (plain && isSpecial asks b) ⌝ }
+{
+    if plain { is_special(asks, b) } else { false }
+}
+
+// The item of a byte, if it has a code.
+fn put_asked(o: Settings, s: Sender, x: Conversion, out: &mut [u8]) -> Item
+    requires { ⌜ most ≤ length (now out) ⌝ }
+    ensures { λ r. ⌜ Puts o s (wantedOf x) (now (out .entry)) (now (out .exit)) r ⌝ }
+{
+    if is_none(x) {
+        return Item {
+            sender: s,
+            count: 0,
+        };
+    }
+    put_item(o, s, wanted_as(x), out)
+}
+
+// The bytes one after the other, at the front of the buffer; up to a special one where plain ones are asked for.
+pub fn send(
+    o: Settings,
+    start: Sender,
+    first: Asks,
+    plain: bool,
+    bytes: &[u8],
+    out: &mut [u8],
+) -> Sent
+    ensures { λ r. ⌜
+        Sends (sends o start first plain (now (bytes .entry)) (length (now (out .entry)))) (now (out .entry)) (now (out .exit)) r
+        ⌝ }
+{
+    let table = convert::table();
+    let mut sender = start;
+    let mut asks = first;
+    let mut taken = 0;
+    let mut count = 0;
+    while taken < bytes.len() {
+        if out.len() - count < 18 {
+            return Sent {
+                sender,
+                asks,
+                taken,
+                count,
+            };
+        }
+        let b = bytes[taken];
+        if stops(plain, asks, b) {
+            return Sent {
+                sender,
+                asks,
+                taken,
+                count,
+            };
+        }
+        let x = convert_as(asks, &table, b);
+        let y = put_asked(o, sender, x, &mut out[count..]);
+        asks = next_asks(o, asks, b);
+        sender = y.sender;
+        count += y.count;
+        taken += 1;
+    }
+    Sent {
+        sender,
+        asks,
+        taken,
+        count,
+    }
+}
