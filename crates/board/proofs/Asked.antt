@@ -4,9 +4,9 @@ use Prim.Native.Nat.{ℕ}
 use mathlib.Core.Path.{_≡_, refl, sym}
 use mathlib.Core.Bool.{Bool, true, false, cond, _&&_, false≢true}
 use mathlib.Core.List.{List, [], _∷_}
-use Rattle.linebox.specs.State.{sound}
+use Rattle.step.specs.State.{sound}
 use Rattle.linebox.specs.Call.{Done, call, taking, stopped, numberOf}
-use Rattle.linebox.specs.Byte.{Calls, CallsOne}
+use Rattle.linebox.specs.Call.{Calls, CallsOne}
 use Rattle.board.specs.Names.{Stream, Unsound, Called}
 use Rattle.spelling.specs.Spelling.{spells, spelt, stateOf, loaded}
 use Rattle.board.specs.Calls.{spellsSound, after, asked, Boards, BoardsOne}

@@ -5,7 +5,7 @@ use mathlib.Core.Bool.{Bool, cond, _&&_}
 use mathlib.Core.List.{List, [], _∷_}
 use lib.ListN.{length}
 use Rattle.laws.specs.Written.{fronted}
-use Rattle.linebox.specs.State.{sound}
+use Rattle.step.specs.State.{sound}
 use Rattle.linebox.specs.Call.{Done, call, stopped, numberOf}
 use Rattle.board.specs.Names.{Stream, Unsound}
 use Rattle.spelling.specs.Spelling.{spells, spelt, stateOf}

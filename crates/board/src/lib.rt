@@ -2,7 +2,7 @@
 ghost use mathlib.Core.Path.{_≡_};
 ghost use mathlib.Core.List.{[], _∷_};
 ghost use lib.ListN.{length};
-ghost use Rattle.linebox.specs.State.{freshBox};
+ghost use Rattle.step.specs.State.{freshBox};
 ghost use Rattle.linebox.specs.Call.{numberOf};
 ghost use Rattle.board.specs.Names.{Host as Names·Host, Line as Names·Line, Tu as Names·Tu};
 ghost use Rattle.spelling.specs.Spelling.{spelt};
@@ -37,7 +37,7 @@ fn counts(c: Called) -> [u64; 3]
 pub extern "C" fn linebox_fresh(state: &mut [u8; 128]) -> u32
     ensures { λ r. ⌜ (r ≡ 0) × (now (state .exit) ≡ spelt freshBox) ⌝ }
 {
-    *state = save(linebox::soundness::fresh());
+    *state = save(step::soundness::fresh());
     0
 }
 

@@ -4,8 +4,8 @@ use Prim.Native.Nat.{ℕ}
 use mathlib.Core.Path.{_≡_, refl, ap, _∙_}
 use mathlib.Core.List.{List, [], _∷_, _++_}
 use Rattle.command.specs.Read.{read}
-use Rattle.linebox.specs.State.{withReader, withSender}
-use Rattle.linebox.specs.Step.{hosted, lined, tued, step, Event}
+use Rattle.step.specs.State.{withReader, withSender}
+use Rattle.step.specs.Step.{hosted, lined, tued, step, Event}
 use Rattle.demands.specs.Names.{Reader, Out, Nothing, One, Two, Finished, Connection, Mode1, Mode4, Mode10, Mode11, Sender, State, Stream, Host, Line, Tu}
 use Rattle.demands.specs.Asks.{asksBy, asksAll}
 

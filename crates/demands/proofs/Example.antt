@@ -13,8 +13,8 @@ use Rattle.settings.specs.Table.{soundString, idOf}
 use Rattle.settings.specs.Command.{commanded}
 use Rattle.printer.specs.Printer.{hear, hears}
 use Rattle.agree.specs.Agrees.{ObeysAt, Obeys}
-use Rattle.linebox.specs.State.{freshBox}
-use Rattle.linebox.specs.Step.{step}
+use Rattle.step.specs.State.{freshBox}
+use Rattle.step.specs.Step.{step}
 use Rattle.demands.specs.Names.{Kind, Still, Space, Return, Shift, Char, Settings, Printer, State}
 use Rattle.demands.specs.Box.{ours}
 use Rattle.demands.specs.Lent.{tookAll, sentAll}

@@ -6,7 +6,7 @@ use mathlib.Core.List.{List, [], _∷_, _++_}
 use lib.ListN.{length, take, drop}
 use lib.Seq.{take-at, drop-at}
 use Rattle.laws.specs.Written.{fronted}
-use Rattle.linebox.specs.Step.{step, Event, run}
+use Rattle.step.specs.Step.{step, Event, run}
 use Rattle.linebox.specs.Ends.{events, firstsOf}
 use Rattle.demands.specs.Names.{State, Stream, Host, Line, Tu}
 use Rattle.demands.specs.Box.{Result, Box, ours}

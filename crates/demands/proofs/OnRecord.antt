@@ -6,7 +6,7 @@ use mathlib.Core.List.{List, [], _∷_}
 use Rattle.sender.specs.Item.{items, afterItems, fresh}
 use Rattle.agree.specs.Sure.{ColumnSure, CaseSure, isReturn, isCased, holds}
 use Rattle.agree.proofs.Told.{holds-append, column-told, case-told}
-use Rattle.linebox.specs.Step.{step, Event, run}
+use Rattle.step.specs.Step.{step, Event, run}
 use Rattle.demands.specs.Names.{Kind, Settings, Record, Sender, Wanted, State}
 use Rattle.demands.specs.Lent.{lines}
 use Rattle.demands.specs.Story.{itemsOf}

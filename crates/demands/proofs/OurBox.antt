@@ -9,7 +9,7 @@ use lib.ListN.{length, getD, take, drop, length-append, length-take, take-append
 use lib.Seq.{drop-cons, split-at, take-at, getD-at, length-take-le}
 use Rattle.laws.specs.Written.{fronted}
 use Rattle.linebox.specs.Call.{Done, call, called}
-use Rattle.linebox.specs.Byte.{Calls, CallsOne}
+use Rattle.linebox.specs.Call.{Calls, CallsOne}
 use Rattle.linebox.specs.Ends.{outcome, When, Takes, Ends}
 use Rattle.linebox.proofs.Ending.{ends, folds, only, one, within, call-fits}
 use Rattle.demands.specs.Names.{State, Stream, Tu, Answer, All, NoRoom, NoCode, Unsound, Called}

@@ -13,10 +13,10 @@ use Rattle.agree.proofs.Agreement.{agreement, unknown-agrees}
 use Rattle.agree.proofs.Folds.{items-noted}
 use Rattle.agree.proofs.Prints.{items-print}
 use Rattle.agree.proofs.Told.{column-told}
-use Rattle.linebox.specs.State.{sound, freshBox}
-use Rattle.linebox.specs.Step.{Event, run}
+use Rattle.step.specs.State.{sound, freshBox}
+use Rattle.step.specs.Step.{Event, run}
 use Rattle.linebox.specs.Ends.{events}
-use Rattle.linebox.proofs.Stays.{sound-parts, sound-step, fresh-sound}
+use Rattle.step.proofs.Stays.{sound-parts, sound-step, fresh-sound}
 use Rattle.demands.specs.Names.{Settings, Wanted, Sender, Printer, State}
 use Rattle.demands.specs.Box.{Box, ours}
 use Rattle.demands.specs.EveryCall.{EveryCall}

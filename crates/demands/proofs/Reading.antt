@@ -18,7 +18,7 @@ use Rattle.printer.specs.Printer.{hears, printsAs, sheet}
 use Rattle.sender.specs.Ending.{due, endingBefore}
 use Rattle.sender.specs.Item.{item, afterItem, wantedOf}
 use Rattle.agree.specs.Asked.{mark, printed, printedAll}
-use Rattle.linebox.specs.Step.{asked, text, Event}
+use Rattle.step.specs.Step.{asked, text, Event}
 use Rattle.demands.specs.Names.{Case, Letters, Figures, Kind, Still, Space, Return, Shift, Char, Conversion, Settings, Connection, Mode1, Mode4, Mode10, Mode11, Column, Record, Wanted, Sender, Printer, Mark, State, Stream, Host, Line, Tu}
 use Rattle.demands.specs.Names.column
 use Rattle.demands.specs.Asks.{textByte, textBytes, hostAsks, isShift, codeIn, tuAsks, asksBy, asks}

@@ -16,11 +16,11 @@ use Rattle.agree.specs.Agrees.{Agrees, ObeysAt, Obeys}
 use Rattle.agree.proofs.Agreement.{agreement, unknown-agrees}
 use Rattle.agree.proofs.Folds.{sheet-append, items-noted}
 use Rattle.agree.proofs.Prints.{items-print}
-use Rattle.linebox.specs.State.{withReader, withReading}
-use Rattle.linebox.specs.Step.{readAs, readCase, hosted, lined, tued, step, Event}
+use Rattle.step.specs.State.{withReader, withReading}
+use Rattle.step.specs.Step.{readAs, readCase, hosted, lined, tued, step, Event}
 use Rattle.linebox.specs.Ends.{events, firstsOf, Cut, Fed, feeding}
-use Rattle.linebox.specs.Laws.{isMode1}
-use Rattle.linebox.proofs.Rest.{commanded-keeps}
+use Rattle.step.specs.Laws.{isMode1}
+use Rattle.step.proofs.Rest.{commanded-keeps}
 use Rattle.linebox.proofs.Cutting.{cutting}
 use Rattle.demands.specs.Names.{Case, Letters, Kind, Still, Space, Return, Shift, Char, Settings, Connection, Mode1, Mode4, Mode10, Mode11, Printer, Reader, Out, Nothing, One, Two, Finished, State, Stream, Host, Line, Tu}
 use Rattle.demands.specs.Asks.{textBytes, hostAsks, tuAsks, asksBy, asks, asksAll}

@@ -10,8 +10,8 @@ use Rattle.code.specs.Kinds.{kindOf}
 use Rattle.code.specs.Convert.{conversion}
 use Rattle.settings.specs.Table.{soundString, idOf}
 use Rattle.settings.specs.Command.{commanded}
-use Rattle.linebox.specs.State.{freshBox}
-use Rattle.linebox.specs.Step.{step, Event, run}
+use Rattle.step.specs.State.{freshBox}
+use Rattle.step.specs.Step.{step, Event, run}
 use Rattle.linebox.specs.Ends.{events}
 use Rattle.linebox.proofs.Turns.{turned-true}
 use Rattle.demands.specs.Names.{State, Host, Line, Tu}

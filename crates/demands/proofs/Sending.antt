@@ -6,8 +6,8 @@ use mathlib.Core.Bool.{cond}
 use mathlib.Core.List.{[]}
 use Rattle.command.specs.Read.{read, textOf}
 use Rattle.sender.specs.Item.{items, afterItems, fresh}
-use Rattle.linebox.specs.State.{withReader}
-use Rattle.linebox.specs.Step.{text, hosted, lined, tued, step, Event}
+use Rattle.step.specs.State.{withReader}
+use Rattle.step.specs.Step.{text, hosted, lined, tued, step, Event}
 use Rattle.demands.specs.Names.{Reader, Out, Nothing, One, Two, Finished, Connection, Mode1, Mode4, Mode10, Mode11, Sender, State, Stream, Host, Line, Tu}
 use Rattle.demands.specs.Story.{connecting, connectsBy, connects, carriedTo, itemsBy, itemsOf}
 use Rattle.demands.proofs.Sessions.{lined-none}

@@ -3,7 +3,7 @@
 use Prim.Native.Nat.{ℕ}
 use mathlib.Core.Path.{_≡_, refl, sym, ap, _∙_}
 use mathlib.Core.List.{List, [], _∷_, _++_, append-assoc}
-use Rattle.linebox.specs.Step.{lined, step, Event, run}
+use Rattle.step.specs.Step.{lined, step, Event, run}
 use Rattle.linebox.specs.Ends.{events}
 use Rattle.demands.specs.Names.{Connection, Mode1, Mode4, Mode10, Mode11, State, Line}
 use Rattle.demands.specs.Lent.{lines}

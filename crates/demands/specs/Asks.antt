@@ -8,7 +8,7 @@ use Rattle.code.specs.Rows.{rowAt}
 use Rattle.code.specs.Kinds.{kindOf}
 use Rattle.code.specs.Convert.{capital, conversion}
 use Rattle.command.specs.Read.{read, textOf}
-use Rattle.linebox.specs.Step.{step, Event}
+use Rattle.step.specs.Step.{step, Event}
 use Rattle.demands.specs.Names.{Case, Kind, Still, Space, Return, Shift, Char, Conversion, Connection, Mode1, Mode4, Mode10, Mode11, State, Stream, Host, Line, Tu}
 
 -- Host text.

@@ -4,8 +4,8 @@ use mathlib.Core.Path.{_≡_}
 use mathlib.Core.Bool.{Bool, true, false}
 use mathlib.Core.List.{List, [], _∷_, _++_}
 use lib.ListN.{length}
-use Rattle.linebox.specs.State.{sound}
-use Rattle.linebox.specs.Step.{step}
+use Rattle.step.specs.State.{sound}
+use Rattle.step.specs.Step.{step}
 use Rattle.linebox.specs.Call.{refuses, fits}
 use Rattle.linebox.specs.Ends.{stateOf, firstsOf, secondsOf, fromSound}
 use Rattle.demands.specs.Names.{State, Stream, Answer, All, NoRoom, NoCode, Unsound}

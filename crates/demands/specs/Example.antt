@@ -6,7 +6,7 @@ use mathlib.Core.List.{List, [], _∷_, _++_}
 use lib.Dec.{ltb}
 use lib.ListN.{replicate}
 use Rattle.printer.specs.Printer.{from}
-use Rattle.linebox.specs.Step.{Event}
+use Rattle.step.specs.Step.{Event}
 use Rattle.linebox.specs.Ends.{events}
 use Rattle.demands.specs.Names.{Figures, Printer, Host, Line, Tu}
 use Rattle.demands.specs.Lent.{Lent}

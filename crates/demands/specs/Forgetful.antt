@@ -5,8 +5,8 @@ use mathlib.Core.Bool.{cond}
 use mathlib.Core.List.{List, [], _∷_, _++_}
 use lib.ListN.{length, replicate}
 use Rattle.sender.specs.Record.{unknown}
-use Rattle.linebox.specs.State.{freshBox, sound, withSender}
-use Rattle.linebox.specs.Step.{Step, step}
+use Rattle.step.specs.State.{freshBox, sound, withSender}
+use Rattle.step.specs.Step.{Step, step}
 use Rattle.linebox.specs.Call.{firstOf, secondOf, refuses, fits, Done, stopped, onward, call}
 use Rattle.linebox.specs.Ends.{firstsOf}
 use Rattle.demands.specs.Names.{State, Stream, Host, All, NoRoom, NoCode, Unsound}

@@ -2,7 +2,7 @@
 use Prim.Native.Nat.{ℕ}
 use mathlib.Core.List.{List, [], _∷_, _++_}
 use lib.ListN.{take}
-use Rattle.linebox.specs.Step.{Step, Event, steps}
+use Rattle.step.specs.Step.{Step, Event, steps}
 use Rattle.linebox.specs.Ends.{events, outputs}
 use Rattle.demands.specs.Names.{State, Stream, Host, Line, Tu}
 use Rattle.demands.specs.Box.{Result, Box}

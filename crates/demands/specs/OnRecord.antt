@@ -3,7 +3,7 @@ use mathlib.Core.Path.{_≡_}
 use mathlib.Core.Bool.{true, false}
 use mathlib.Core.List.{List, [], _∷_}
 use Rattle.agree.specs.Sure.{ColumnSure, CaseSure, isReturn, isCased, holds}
-use Rattle.linebox.specs.Step.{step, Event, run}
+use Rattle.step.specs.Step.{step, Event, run}
 use Rattle.demands.specs.Names.{State}
 use Rattle.demands.specs.Lent.{lines}
 use Rattle.demands.specs.Story.{connects}

@@ -9,8 +9,8 @@ use Rattle.agree.specs.Agrees.{Agrees}
 use Rattle.agree.specs.Asked.{printedAll}
 use Rattle.agree.specs.Margin.{Below}
 use Rattle.agree.specs.Sure.{isReturn}
-use Rattle.linebox.specs.State.{freshBox}
-use Rattle.linebox.specs.Step.{step, Event}
+use Rattle.step.specs.State.{freshBox}
+use Rattle.step.specs.Step.{step, Event}
 use Rattle.demands.specs.Names.{Wanted, Printer, State}
 use Rattle.demands.specs.Box.{Box}
 use Rattle.demands.specs.Lent.{Lent, result, tookAll, sentAll}

@@ -6,9 +6,9 @@ use mathlib.Core.List.{List, [], _∷_, _++_}
 use lib.ListN.{length, drop}
 use Rattle.command.specs.Read.{textOf}
 use Rattle.command.specs.Reads.{made}
-use Rattle.linebox.specs.Step.{step, Event, run}
+use Rattle.step.specs.Step.{step, Event, run}
 use Rattle.linebox.specs.Ends.{firstsOf}
-use Rattle.linebox.specs.Laws.{isMode1}
+use Rattle.step.specs.Laws.{isMode1}
 use Rattle.demands.specs.Names.{State, Stream, Host, Line, Tu, Out}
 use Rattle.demands.specs.Box.{Box}
 use Rattle.demands.specs.Lent.{lines, Lent, tookAll, sentAll}

@@ -8,8 +8,8 @@ use Rattle.printer.specs.Printer.{hears, sheet}
 use Rattle.sender.specs.Item.{wanted}
 use Rattle.agree.specs.Agrees.{Obeys}
 use Rattle.agree.specs.Sure.{isReturn, holds}
-use Rattle.linebox.specs.State.{freshBox}
-use Rattle.linebox.specs.Step.{Step, text, step, Event}
+use Rattle.step.specs.State.{freshBox}
+use Rattle.step.specs.Step.{Step, text, step, Event}
 use Rattle.demands.specs.Names.{Out, Nothing, One, Two, Finished, Connection, Mode1, Mode4, Mode10, Mode11, Wanted, Printer, Mark, State, Stream, Host, Line, Tu}
 
 -- Whose turn it is.

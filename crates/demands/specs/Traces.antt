@@ -4,7 +4,7 @@ use mathlib.Core.Bool.{Bool, true, false, _&&_}
 use mathlib.Core.List.{List, [], _∷_, _++_}
 use lib.Dec.{eqb}
 use lib.ListN.{length}
-use Rattle.linebox.specs.State.{freshBox}
+use Rattle.step.specs.State.{freshBox}
 use Rattle.linebox.specs.Call.{Done, call}
 use Rattle.demands.specs.Names.{Stream, Host, Tu}
 

@@ -7,7 +7,7 @@ use native.Mathlib.Omega.{arith}
 use lib.ListN.{length, take, drop, length-append, length-take}
 use lib.Seq.{take-length, take-take, take-add, length-take-le}
 use Rattle.linebox.specs.Names.{State, Stream, Answer}
-use Rattle.linebox.specs.Step.{Step, step, steps}
+use Rattle.step.specs.Step.{Step, step, steps}
 use Rattle.linebox.specs.Call.{firstOf, secondOf, Done, call}
 use Rattle.linebox.specs.Ends.{events, outputs, stateOf, firstsOf, secondsOf, outcome, Cut, Fed, joined, feeding, fed}
 use Rattle.linebox.proofs.Ending.{folds, within}

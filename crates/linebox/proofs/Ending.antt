@@ -11,12 +11,12 @@ use lib.Dec.{leb}
 use lib.ListN.{length, getD, take, length-append}
 use Rattle.laws.proofs.Both.{both}
 use Rattle.linebox.specs.Names.{State, Stream, Answer, All, NoRoom, NoCode, Unsound}
-use Rattle.linebox.specs.State.{sound}
-use Rattle.linebox.specs.Step.{step}
+use Rattle.step.specs.State.{sound}
+use Rattle.step.specs.Step.{step}
 use Rattle.linebox.specs.Call.{firstOf, secondOf, refuses, fits, Done, stopped, onward, taking, call}
-use Rattle.linebox.specs.Laws.{mostFirst, mostSecond}
+use Rattle.step.specs.Laws.{mostFirst, mostSecond}
 use Rattle.linebox.specs.Ends.{firstsOf, secondsOf, outcome, fitsAt, fromSound, When, Takes, Ends}
-use Rattle.linebox.proofs.Most.{most-first, most-second}
+use Rattle.step.proofs.Most.{most-first, most-second}
 
 -- what is free after both parts
 free : (a : ℕ) (f g : List ℕ) → a - length (f ++ g) ≡ (a - length f) - length g

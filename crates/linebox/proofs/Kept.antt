@@ -14,10 +14,10 @@ use Rattle.command.specs.declared.Step.{Step as Read}
 use Rattle.command.specs.Read.{isNothing, read}
 use Rattle.command.specs.Reads.{further, running}
 use Rattle.linebox.specs.Names.{Out, Nothing, One, Two, Finished, Reader, State, Stream, Host}
-use Rattle.linebox.specs.State.{sound, withReader}
-use Rattle.linebox.specs.Step.{Step, quiet, hosted, hostStep}
+use Rattle.step.specs.State.{sound, withReader}
+use Rattle.step.specs.Step.{Step, quiet, hosted, hostStep}
 use Rattle.linebox.specs.Call.{Done, before, taking}
-use Rattle.linebox.proofs.Stays.{sound-step}
+use Rattle.step.proofs.Stays.{sound-step}
 
 nothing-made : (s : State) (fields : List ℕ) (out : Out) → isNothing out ≡ true → hosted s fields out ≡ quiet s
 nothing-made s fields Nothing e = refl

@@ -1,14 +1,6 @@
-pub mod Bytes
-pub mod Modes
-pub mod Sent
-pub mod Answered
-pub mod Stays
-pub mod Turns
 pub mod Kept
 pub mod Plainly
 pub mod PlainText
-pub mod Rest
-pub mod Most
+pub mod Turns
 pub mod Ending
 pub mod Cutting
-pub mod Reached

@@ -20,14 +20,15 @@ use Rattle.sender.specs.Item.{items, afterItems, wanted, wantedOf, incoming}
 use Rattle.sender.specs.Sends.{converted, asksNext, isSpecial, most, Run, sends, Sends}
 use Rattle.sender.specs.declared.Sent.{Sent}
 use Rattle.linebox.specs.Names.{Case, Connection, Mode1, Mode4, Mode10, Mode11, Settings, Sender, Asks, Text, Codes, One, State, Stream, Host, Tu, Ran}
-use Rattle.linebox.specs.State.{sound, withReader, withSender, withIncoming}
-use Rattle.linebox.specs.Step.{Step, sends as sent, asked, text, released, hosted, hostStep, tued, tuStep, carried, step}
+use Rattle.step.specs.State.{sound, withReader, withSender, withIncoming}
+use Rattle.step.specs.Step.{Step, sends as sent, asked, text, released, hosted, hostStep, tued, tuStep, carried, step}
 use Rattle.linebox.specs.Call.{firstOf, secondOf, refuses, fits, Done, before, taking}
-use Rattle.linebox.specs.Plain.{isText, caseOf}
-use Rattle.linebox.specs.Laws.{isMode1, isMode4}
+use Rattle.linebox.specs.Plain.{isText}
+use Rattle.step.specs.Step.{caseOf}
+use Rattle.step.specs.Laws.{isMode1, isMode4}
 use Rattle.sender.proofs.Sending.{run-within, run-none}
-use Rattle.linebox.specs.Byte.{Runs}
-use Rattle.linebox.proofs.Stays.{sound-parts, parts-sound}
+use Rattle.linebox.specs.Call.{Runs}
+use Rattle.step.proofs.Stays.{sound-parts, parts-sound}
 use Rattle.linebox.proofs.Plainly.{Plain, one-fits, plainly}
 
 -- how text asks, and how codes do

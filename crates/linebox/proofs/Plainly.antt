@@ -13,7 +13,7 @@ use Rattle.sender.specs.Item.{items, afterItems, wantedOf}
 use Rattle.sender.specs.Sends.{converted, asksNext, isSpecial, most, Run, sends}
 use Rattle.sender.proofs.Most.{byte-most}
 use Rattle.linebox.specs.Names.{Settings, Sender, Asks, State, Stream}
-use Rattle.linebox.specs.Step.{Step, step}
+use Rattle.step.specs.Step.{Step, step}
 use Rattle.linebox.specs.Call.{firstOf, secondOf, refuses, fits, Done, onward, before, taking}
 
 -- a byte that is taken as its items go out, and writes to the first buffer alone

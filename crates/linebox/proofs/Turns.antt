@@ -15,15 +15,16 @@ use lib.Seq.{drop-cons, drop-drop, getD-drop, take-all}
 use Rattle.laws.specs.Written.{written, fronted, Filled}
 use Rattle.laws.proofs.Tail.{lent, fronted-more, length-fronted}
 use Rattle.linebox.specs.Names.{State, Stream, Host, Answer, All, NoRoom, NoCode, Taken, Ran, Called}
-use Rattle.linebox.specs.State.{sound, withReader}
-use Rattle.linebox.specs.Step.{Step, hosted, step}
+use Rattle.step.specs.State.{sound, withReader}
+use Rattle.step.specs.Step.{Step, hosted, step}
 use Rattle.linebox.specs.Call.{firstOf, secondOf, refuses, fits, Done, stopped, onward, before, taking, called}
-use Rattle.linebox.specs.Byte.{Offers, Runs, Calls}
+use Rattle.step.specs.Byte.{Offers}
+use Rattle.linebox.specs.Call.{Runs, Calls}
 use Rattle.command.specs.declared.Running.{Running}
 use Rattle.command.specs.Reads.{running}
 use Rattle.command.proofs.Runs.{run-within, run-next}
 use Rattle.command.specs.Read.{read}
-use Rattle.linebox.proofs.Stays.{sound-step}
+use Rattle.step.proofs.Stays.{sound-step}
 use Rattle.linebox.proofs.Kept.{kept}
 use Rattle.laws.proofs.Filled.{free-length, filled-more, filled-on, unfilled}
 use Rattle.laws.proofs.Both.{both}

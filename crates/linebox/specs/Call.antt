@@ -1,12 +1,15 @@
 -- How a call ends: its answer, what it took, the state, and what it wrote to each lent buffer in the order lent.
-use Prim.Native.Nat.{ℕ, suc, _+_, _-_}
+use Prim.Native.Nat.{ℕ, suc, _+_, _-_, _≤_}
+use mathlib.Core.Path.{_≡_}
 use mathlib.Core.Bool.{Bool, true, false, cond, _&&_}
 use mathlib.Core.List.{List, [], _∷_, _++_}
-use lib.Dec.{leb, ltb}
-use lib.ListN.{length}
-use Rattle.linebox.specs.Names.{Connection, State, Stream, Host, Line, Tu, Answer, All, NoRoom, NoCode, Unsound, Called}
-use Rattle.linebox.specs.State.{sound}
-use Rattle.linebox.specs.Step.{Step, step}
+use lib.Dec.{ltb}
+use lib.ListN.{length, drop}
+use Rattle.laws.specs.Written.{fronted, Filled}
+use Rattle.linebox.specs.Names.{Connection, State, Stream, Host, Line, Tu, Answer, All, NoRoom, NoCode, Unsound, Ran, Called}
+use Rattle.step.specs.State.{sound}
+use Rattle.step.specs.Step.{Step, step}
+pub use Rattle.step.specs.Byte.{firstOf, secondOf, fits}
 
 -- the numbers of the answers
 abbrev pub numberOf : Answer → ℕ
@@ -14,18 +17,6 @@ numberOf All = 0
 numberOf NoRoom = 1
 numberOf NoCode = 2
 numberOf Unsound = 3
-
--- A host call lends a line and a host buffer, a line call a host and a TU buffer, a TU call a line buffer.
-
-abbrev pub firstOf : Stream → Step → List ℕ
-firstOf Host x = x .line
-firstOf Line x = x .host
-firstOf Tu x = x .line
-
-abbrev pub secondOf : Stream → Step → List ℕ
-secondOf Host x = x .host
-secondOf Line x = x .tu
-secondOf Tu x = []
 
 -- the streams whose bytes have to be codes, whatever the mode
 abbrev pub isCoded : Stream → Connection → Bool
@@ -36,10 +27,6 @@ isCoded Tu c = true
 -- the next byte of a code stream is over 31
 abbrev pub refuses : Stream → State → ℕ → Bool
 refuses t s b = isCoded t (s .connection) && ltb 31 b
-
--- the next byte's whole output fits both buffers
-abbrev pub fits : Stream → Step → ℕ → ℕ → Bool
-fits t x a b = leb (length (firstOf t x)) a && leb (length (secondOf t x)) b
 
 pub record Done : Type 0 where
   pub answer : Answer
@@ -79,3 +66,22 @@ endedAt answer taken first second s = record { answer = answer; taken = taken; f
 
 abbrev pub called : Done → Called
 called d = endedAt (d .answer) (d .taken) (length (d .first)) (length (d .second)) (d .state)
+
+-- a run of bytes that write to the first buffer alone: they stand before what the rest gives, whatever room the second has
+pub record Runs (t : Stream) (s : State) (input old now : List ℕ) (r : Ran) : Type 0 where
+  pub new : List ℕ
+  pub within : r .taken ≤ length input
+  pub kept : sound (r .state) ≡ true
+  pub places : Filled old now new (r .count)
+  pub rest : (room : ℕ) → taking t s input (length old) room ≡ before (r .taken) new [] (taking t (r .state) (drop (r .taken) input) (length old - r .count) room)
+
+-- A whole call: what it gives is the definition's, and each buffer is the old one with what was written at its front.
+pub record Calls (d : Done) (old₁ old₂ now₁ now₂ : List ℕ) (r : Called) : Type 0 where
+  pub gives : r ≡ called d
+  pub one : now₁ ≡ fronted old₁ (d .first)
+  pub two : now₂ ≡ fronted old₂ (d .second)
+
+-- the same with one buffer
+pub record CallsOne (d : Done) (old now : List ℕ) (r : Called) : Type 0 where
+  pub gives : r ≡ called d
+  pub one : now ≡ fronted old (d .first)

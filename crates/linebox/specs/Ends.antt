@@ -5,8 +5,8 @@ use mathlib.Core.Bool.{Bool, true, false}
 use mathlib.Core.List.{List, [], _∷_, _++_}
 use lib.ListN.{length, getD, take, drop}
 use Rattle.linebox.specs.Names.{State, Stream, Answer, All, NoRoom, NoCode, Unsound}
-use Rattle.linebox.specs.State.{sound}
-use Rattle.linebox.specs.Step.{Step, step, Event, run, steps}
+use Rattle.step.specs.State.{sound}
+use Rattle.step.specs.Step.{Step, step, Event, run, steps}
 use Rattle.linebox.specs.Call.{firstOf, secondOf, refuses, fits, Done, call}
 
 -- bytes of one stream

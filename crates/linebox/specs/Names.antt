@@ -13,13 +13,13 @@ pub use Rattle.settings.specs.declared.Stored.{Stored}
 pub use Rattle.settings.specs.declared.Outcome.{Outcome}
 pub use Rattle.sender.specs.declared.Wanted.{Wanted}
 pub use Rattle.sender.specs.declared.Sender.{Sender}
-pub use Rattle.linebox.specs.declared.State.{State}
-pub use Rattle.linebox.specs.Stream.{Stream, Host, Line, Tu}
+pub use Rattle.step.specs.declared.State.{State}
+pub use Rattle.step.specs.Stream.{Stream, Host, Line, Tu}
 pub use Rattle.linebox.specs.declared.Answer.{Answer}
 pub use Rattle.linebox.specs.declared.Answer.the-variants.{All, NoRoom, NoCode, Unsound}
 pub use Rattle.linebox.specs.declared.Called.{Called}
-pub use Rattle.linebox.specs.declared.Took.{Took}
-pub use Rattle.linebox.specs.declared.Taken.{Taken}
+pub use Rattle.step.specs.declared.Took.{Took}
+pub use Rattle.step.specs.declared.Taken.{Taken}
 pub use Rattle.linebox.specs.declared.Ran.{Ran}
 pub use Rattle.sender.specs.declared.Asks.{Asks}
 pub use Rattle.sender.specs.declared.Asks.the-variants.{Text, Codes}

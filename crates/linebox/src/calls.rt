@@ -3,19 +3,19 @@ ghost use mathlib.Core.Path.{_≡_};
 ghost use mathlib.Core.Bool.{true};
 ghost use lib.ListN.{length, drop};
 ghost use Rattle.linebox.specs.Names.{Host as Names·Host, Line as Names·Line, Tu as Names·Tu};
-ghost use Rattle.linebox.specs.State.{sound};
+ghost use Rattle.step.specs.State.{sound};
 ghost use Rattle.linebox.specs.Call.{taking, call, endedAt};
-ghost use Rattle.linebox.specs.Byte.{Calls, CallsOne};
+ghost use Rattle.linebox.specs.Call.{Calls, CallsOne};
 use crate::Answer;
 use crate::Called;
-use crate::State;
-use crate::host::put_read;
-use crate::line::put_line;
 use crate::runs::take_codes;
 use crate::runs::take_text;
-use crate::sends::put_tu;
-use crate::soundness::is_sound;
-use crate::states::with_reader;
+use step::State;
+use step::host::put_read;
+use step::line::put_line;
+use step::sends::put_tu;
+use step::soundness::is_sound;
+use step::states::with_reader;
 
 // A call that ends here.
 fn ended(answer: Answer, taken: usize, first: usize, second: usize, state: State) -> Called

@@ -2,20 +2,20 @@
 ghost use mathlib.Core.Path.{_≡_};
 ghost use mathlib.Core.Bool.{true};
 ghost use Rattle.linebox.specs.Names.{Host as Names·Host, Tu as Names·Tu};
-ghost use Rattle.linebox.specs.State.{sound};
-ghost use Rattle.linebox.specs.Byte.{Runs};
+ghost use Rattle.step.specs.State.{sound};
+ghost use Rattle.linebox.specs.Call.{Runs};
 ghost use Rattle.linebox.specs.Plain.{isText};
-ghost use Rattle.linebox.specs.Laws.{isMode1, isMode4};
+ghost use Rattle.step.specs.Laws.{isMode1, isMode4};
 use crate::Ran;
-use crate::State;
-use crate::sends::case_of;
-use crate::states::with_incoming;
-use crate::states::with_reader;
-use crate::states::with_sender;
 use command::Reader;
 use command::Stage;
 use sender::Asks;
 use settings::Connection;
+use step::State;
+use step::sends::case_of;
+use step::states::with_incoming;
+use step::states::with_reader;
+use step::states::with_sender;
 
 // Whether the command reader holds nothing.
 fn is_text(stage: Stage) -> bool

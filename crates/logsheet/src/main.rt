@@ -4,7 +4,7 @@ ghost use Prim.Native.Nat.{_≤_};
 ghost use lib.ListN.{length};
 use libc::STDIN_FILENO;
 use libc::STDOUT_FILENO;
-use linebox::State;
+use step::State;
 
 // The box and how many bytes went to the host, while the input goes on; false where writing failed.
 struct Sheet {
@@ -149,7 +149,7 @@ fn print_end(host: u64) {
 fn main() {
     io::write_all(STDOUT_FILENO, b"line");
     let t = read_all(Sheet {
-        state: linebox::soundness::fresh(),
+        state: step::soundness::fresh(),
         host: 0,
         is_written: true,
     });

@@ -8,7 +8,7 @@ use borrow.Author.Tests.{eqb-true}
 use lib.Dec.{eqb}
 use lib.ListN.{length, getD}
 use Rattle.laws.proofs.Both.{both}
-use Rattle.linebox.specs.State.{formed}
+use Rattle.step.specs.State.{formed}
 use Rattle.spelling.specs.Names.{Case, Letters, Figures, Verb, Write, Read, Other, Form, Empty, Digits, Ex, Stage, Text, Swallow, Held, Begun, Lettered, Typed, Fields, Discard, Connection, Mode1, Mode4, Mode10, Mode11, Known, Is, Column, At, Last, Shift, State, Loaded}
 use Rattle.spelling.specs.Names.known
 use Rattle.spelling.specs.Names.column

@@ -21,5 +21,5 @@ pub use Rattle.sender.specs.declared.Last.{Last}
 pub use Rattle.sender.specs.declared.Last.the-variants.{Shift}
 pub use Rattle.sender.specs.declared.Last.the-variants as last
 pub use Rattle.sender.specs.declared.Sender.{Sender}
-pub use Rattle.linebox.specs.declared.State.{State}
+pub use Rattle.step.specs.declared.State.{State}
 pub use Rattle.spelling.specs.declared.Loaded.{Loaded}

@@ -1,5 +1,5 @@
 // The state as 128 bytes: the spelling of a state, and the state that bytes spell.
-use linebox::State;
+use step::State;
 
 pub mod load;
 pub mod save;

@@ -8,7 +8,6 @@ use command::Form;
 use command::Reader;
 use command::Stage;
 use command::Verb;
-use linebox::State;
 use sender::Column;
 use sender::Known;
 use sender::Last;
@@ -16,6 +15,7 @@ use sender::Record;
 use sender::Sender;
 use settings::Connection;
 use settings::Settings;
+use step::State;
 
 // The case of a byte.
 fn case_of(n: u8) -> Case

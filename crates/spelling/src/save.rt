@@ -6,13 +6,13 @@ use code::Case;
 use command::Form;
 use command::Stage;
 use command::Verb;
-use linebox::State;
 use sender::Column;
 use sender::Known;
 use sender::Last;
 use sender::Sender;
 use settings::Connection;
 use settings::Settings;
+use step::State;
 
 // A case: 1 letters, 2 figures.
 fn case_byte(c: Case) -> u8

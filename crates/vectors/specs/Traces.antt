@@ -5,7 +5,7 @@ use mathlib.Core.List.{List}
 use lib.ListN.{getD, replicate}
 use Rattle.laws.specs.Written.{fronted}
 use Rattle.settings.specs.declared.Settings.{Settings}
-use Rattle.linebox.specs.declared.State.{State}
+use Rattle.step.specs.declared.State.{State}
 use Rattle.vectors.specs.declared.traces.Stream.{Stream}
 use Rattle.vectors.specs.declared.traces.Stream.the-variants.{Host, Line, Tu}
 use Rattle.linebox.specs.declared.Answer.{Answer}

@@ -170,7 +170,7 @@ fn run_trace(b: Bench, s: &[u8]) -> Ran {
         b'L' => run_call(Stream::Line, b, s),
         b'T' => run_call(Stream::Tu, b, s),
         b'F' => run_find(b, s),
-        b'N' => prepared(ready(linebox::soundness::fresh())),
+        b'N' => prepared(ready(step::soundness::fresh())),
         b'R' => prepared(traces::lending(b, s)),
         b'Z' => prepared(traces::limited(b, s)),
         _ => prepared(b),
@@ -226,7 +226,7 @@ fn run_all(s: &[u8]) -> Tallies {
         ascii: none,
         ustty: none,
         traces: none,
-        bench: ready(linebox::soundness::fresh()),
+        bench: ready(step::soundness::fresh()),
     };
     let mut at = 0;
     while at < s.len() {

@@ -6,8 +6,8 @@ use crate::text::after_bar;
 use crate::text::before_bar;
 use crate::text::decode;
 use linebox::Answer;
-use linebox::State;
 use settings::Settings;
+use step::State;
 
 // Where a call's bytes come from: the host, the line or the TU.
 pub enum Stream {

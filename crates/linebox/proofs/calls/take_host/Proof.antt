@@ -2,8 +2,8 @@
 -- state stays sound.
 -- Assumes nothing.
 use mathlib.Core.List.{List}
-use Rattle.linebox.specs.Step.{hosted, step}
-use Rattle.linebox.specs.State.{withReader}
+use Rattle.step.specs.Step.{hosted, step}
+use Rattle.step.specs.State.{withReader}
 use lib.ListN.{length, getD}
 use Prim.Native.Nat.{_≤_, _<_, _+_, _-_}
 use denote.Ref.{now}
@@ -12,7 +12,7 @@ use native.Mathlib.Omega.{arith}
 use borrow.Rule.Slice.PartMut.{putMid}
 use Rattle.linebox.specs.Names.{Host, All}
 use Rattle.laws.proofs.Filled.{unfilled}
-use Rattle.linebox.proofs.Stays.{sound-parts}
+use Rattle.step.proofs.Stays.{sound-parts}
 use Rattle.linebox.proofs.Turns.{turned-true, turned-false, Reached, reached, ran, kept-on, read-next, stops, all-taken, stays, turn}
 use borrow.Author.Needs.{needs}
 use Rattle.linebox.proofs.calls.take_host.Statement.{statement}

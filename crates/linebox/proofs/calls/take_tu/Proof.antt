@@ -11,8 +11,8 @@ use borrow.Rule.Slice.PartMut.{putMid}
 use lib.ListN.{length}
 use Rattle.linebox.specs.Names.{Tu, All, NoCode}
 use Rattle.laws.proofs.Filled.{unfilled}
-use Rattle.linebox.proofs.Stays.{sound-parts}
-use Rattle.linebox.proofs.Bytes.{offers-first}
+use Rattle.step.proofs.Stays.{sound-parts}
+use Rattle.step.proofs.Bytes.{offers-first}
 use Rattle.linebox.proofs.Turns.{turned-true, turned-false, Reached, reached, ran, stops, all-taken, no-code, stays, turn, turn-rooms}
 use borrow.Author.Needs.{needs}
 use Rattle.linebox.proofs.calls.take_tu.Statement.{statement}

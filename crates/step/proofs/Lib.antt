@@ -1,0 +1,8 @@
+pub mod Bytes
+pub mod Modes
+pub mod Sent
+pub mod Answered
+pub mod Stays
+pub mod Rest
+pub mod Most
+pub mod Reached

@@ -1,0 +1,94 @@
+-- The most that one byte makes from a sound state: 16 line codes from the host and 14 from the TU, 36 host bytes, one TU code.
+-- Assumes nothing.
+use Prim.Native.Nat.{ℕ, _≤_}
+use mathlib.Core.Path.{_≡_}
+use mathlib.Core.Bool.{Bool, true, false, cond}
+use mathlib.Core.List.{List, [], _∷_, append-nil}
+use native.Mathlib.Omega.{arith}
+use lib.Dec.{lit≤}
+use lib.ListN.{length}
+use Rattle.code.specs.Kinds.{kindOf}
+use Rattle.code.specs.Rows.{rowAt}
+use Rattle.command.specs.Read.{read}
+use Rattle.settings.specs.Laws.{Sound}
+use Rattle.settings.proofs.Sent.{answers-short}
+use Rattle.sender.specs.Item.{wanted}
+use Rattle.agree.proofs.Length.{item-length, items-length}
+use Rattle.step.specs.Names.{Case, Kind, Wanted, Connection, Mode1, Mode4, Mode10, Mode11, Out, Nothing, One, Two, Finished, State, Stream, Host, Line, Tu}
+use Rattle.step.specs.State.{sound, withReader}
+use Rattle.step.specs.Step.{Step, sends, released, text, hosted, isRead, readAs, lined, tued, step}
+use Rattle.step.specs.Byte.{firstOf, secondOf}
+use Rattle.step.specs.Laws.{Parts, Few, mostFirst, mostSecond}
+use Rattle.step.proofs.Sent.{asked-few}
+use Rattle.step.proofs.Stays.{sound-parts}
+
+text-few : (k : Connection) (slash : Bool) (b : ℕ) → length (text k (released slash b)) ≤ 2
+text-few (Mode1 port speed) slash b = asked-few slash b
+text-few (Mode4 port speed) slash b = lit≤ tt
+text-few Mode10 slash b = lit≤ tt
+text-few Mode11 slash b = lit≤ tt
+
+-- at most two items
+sends-few : (s : State) (ws : List Wanted) → Sound (s .settings) (s .connection) → length ws ≤ 2 → Few Host (sends s ws)
+sends-few s ws h few = record { line = items-length (s .settings) (h .settings) (h .places) (s .sender) ws few; host = lit≤ tt; tu = lit≤ tt }
+
+hosted-few : (s : State) (fields : List ℕ) (out : Out) → length fields ≡ 11 → Sound (s .settings) (s .connection) → Few Host (hosted s fields out)
+hosted-few s fields Nothing l h = record { line = lit≤ tt; host = lit≤ tt; tu = lit≤ tt }
+hosted-few s fields (One b) l h = sends-few s (text (s .connection) (released false b)) h (text-few (s .connection) false b)
+hosted-few s fields (Two b) l h = sends-few s (text (s .connection) (released true b)) h (text-few (s .connection) true b)
+hosted-few s fields (Finished v count) l h = record { line = lit≤ tt; host = answers-short (s .settings) (s .connection) h v count fields l .short; tu = lit≤ tt }
+
+read-few : (reports : Bool) (case : Case) (k : Kind) (c : ℕ) → length (readAs reports case k c) ≤ 1
+read-few reports case k c = go (isRead reports k)
+  where
+    go : (b : Bool) → length (cond b (rowAt case c ∷ []) []) ≤ 1
+    go true = lit≤ tt
+    go false = lit≤ tt
+
+lined-few : (k : Connection) (s : State) (c : ℕ) → Few Line (lined k s c)
+lined-few (Mode1 port speed) s c = record { line = lit≤ tt; host = read-few (s .settings .reports) (s .reading) (kindOf c) c; tu = lit≤ tt }
+lined-few (Mode4 port speed) s c = record { line = lit≤ tt; host = lit≤ tt; tu = lit≤ tt }
+lined-few Mode10 s c = record { line = lit≤ tt; host = lit≤ tt; tu = lit≤ tt }
+lined-few Mode11 s c = record { line = lit≤ tt; host = lit≤ tt; tu = lit≤ tt }
+
+tued-few : (k : Connection) (s : State) (c : ℕ) → Sound (s .settings) (s .connection) → Few Tu (tued k s c)
+tued-few (Mode1 port speed) s c h = record { line = lit≤ tt; host = lit≤ tt; tu = lit≤ tt }
+tued-few (Mode4 port speed) s c h = record { line = rw append-nil (item-length (s .settings) (h .settings) (h .places) (s .sender) (wanted (s .incoming) c)); host = lit≤ tt; tu = lit≤ tt }
+tued-few Mode10 s c h = record { line = lit≤ tt; host = lit≤ tt; tu = lit≤ tt }
+tued-few Mode11 s c h = record { line = lit≤ tt; host = lit≤ tt; tu = lit≤ tt }
+
+step-few : (t : Stream) (s : State) (b : ℕ) → Parts s → Few t (step t s b)
+step-few Host s b p = hosted-few (withReader s (read (s .reader) b .reader)) (s .reader .values) (read (s .reader) b .out) (p .eleven) (p .held)
+step-few Line s b p = lined-few (s .connection) s b
+step-few Tu s b p = tued-few (s .connection) s b (p .held)
+
+-- the true maxima
+pub most : (t : Stream) (s : State) (b : ℕ) → sound s ≡ true → Few t (step t s b)
+most t s b h = step-few t s b (sound-parts s h)
+
+-- in the buffers as they are lent
+few-first : (t : Stream) (x : Step) → Few t x → length (firstOf t x) ≤ mostFirst t
+few-first Host x f = f .line
+few-first Line x f = f .host
+few-first Tu x f = f .line
+
+few-second : (t : Stream) (x : Step) → Few t x → length (secondOf t x) ≤ mostSecond t
+few-second Host x f = f .host
+few-second Line x f = f .tu
+few-second Tu x f = lit≤ tt
+
+few-forty : (t : Stream) (x : Step) → Few t x → (length (x .line) ≤ 40) × ((length (x .host) ≤ 40) × (length (x .tu) ≤ 40))
+few-forty Host x f = (omega (arith, f .line), (omega (arith, f .host), omega (arith, f .tu)))
+few-forty Line x f = (omega (arith, f .line), (omega (arith, f .host), omega (arith, f .tu)))
+few-forty Tu x f = (omega (arith, f .line), (omega (arith, f .host), omega (arith, f .tu)))
+
+module _ (t : Stream) (s : State) (b : ℕ) (h : sound s ≡ true) where
+  pub most-first : length (firstOf t (step t s b)) ≤ mostFirst t
+  most-first = few-first t (step t s b) (most t s b h)
+
+  pub most-second : length (secondOf t (step t s b)) ≤ mostSecond t
+  most-second = few-second t (step t s b) (most t s b h)
+
+  -- one byte never makes more than 40 codes or 40 host bytes
+  pub forty : (length (step t s b .line) ≤ 40) × ((length (step t s b .host) ≤ 40) × (length (step t s b .tu) ≤ 40))
+  forty = few-forty t (step t s b) (most t s b h)

@@ -1,0 +1,136 @@
+-- What one byte of each stream does: the state after it, and what goes to the line, to the host and to the TU.
+use Prim.Native.Nat.{ℕ}
+use mathlib.Core.Bool.{Bool, true, false, cond}
+use mathlib.Core.List.{List, [], _∷_, _++_}
+use lib.ListN.{take}
+use Rattle.code.specs.Rows.{rowAt}
+use Rattle.code.specs.Kinds.{kindOf}
+use Rattle.code.specs.Convert.{conversion}
+use Rattle.message.specs.Message.{framed}
+use Rattle.command.specs.Read.{read, textOf}
+use Rattle.settings.specs.Command.{commanded}
+use Rattle.sender.specs.Item.{items, afterItems, wanted, wantedOf, incoming}
+use Rattle.step.specs.Names.{Asks, Text, Codes, Case, Letters, Kind, Still, Space, Return, Shift, Char, Reader, Out, Nothing, One, Two, Finished, Connection, Mode1, Mode4, Mode10, Mode11, Outcome, Wanted, State, Stream, Host, Line, Tu}
+use Rattle.step.specs.State.{withReader, withSender, withReading, withIncoming, withStored}
+
+pub record Step : Type 0 where
+  pub state : State
+  pub line : List ℕ
+  pub host : List ℕ
+  pub tu : List ℕ
+
+-- taken and dropped
+abbrev pub quiet : State → Step
+quiet s = record { state = s; line = []; host = []; tu = [] }
+
+-- items to the line
+abbrev pub sends : State → List Wanted → Step
+sends s ws = record { state = withSender s (afterItems (s .settings) (s .sender) ws); line = items (s .settings) (s .sender) ws; host = []; tu = [] }
+
+-- Host bytes.
+
+-- what text asks for
+abbrev pub asked : List ℕ → List Wanted
+asked [] = []
+asked (b ∷ bs) = wantedOf (conversion b) ++ asked bs
+
+-- host text goes to the line in mode 1, and is dropped in the others
+abbrev pub text : Connection → List ℕ → List Wanted
+text (Mode1 port speed) bs = asked bs
+text (Mode4 port speed) bs = []
+text Mode10 bs = []
+text Mode11 bs = []
+
+-- a text byte, and before it the `/` where that was held
+abbrev pub released : Bool → ℕ → List ℕ
+released true b = 47 ∷ b ∷ []
+released false b = b ∷ []
+
+-- commands work in every mode; the answer goes to the host
+abbrev pub obeys : State → Outcome → Step
+obeys s o = record { state = withStored s (o .stored); line = []; host = framed (take (o .count) (o .numbers)); tu = [] }
+
+-- what the command reader made of the byte; a finished command's fields stand in the reader before it
+abbrev pub hosted : State → List ℕ → Out → Step
+hosted s fields Nothing = quiet s
+hosted s fields (One b) = sends s (text (s .connection) (released false b))
+hosted s fields (Two b) = sends s (text (s .connection) (released true b))
+hosted s fields (Finished v count) = obeys s (commanded (s .settings) (s .connection) v count fields)
+
+abbrev pub hostStep : State → ℕ → Step
+hostStep s b = hosted (withReader s (read (s .reader) b .reader)) (s .reader .values) (read (s .reader) b .out)
+
+-- Line codes.
+
+-- 27 and 31 give SO and SI if option 74 is on, otherwise nothing
+abbrev pub isRead : Bool → Kind → Bool
+isRead reports Still = true
+isRead reports Space = true
+isRead reports Return = true
+isRead reports (Shift to) = reports
+isRead reports (Char bell) = true
+
+abbrev pub readAs : Bool → Case → Kind → ℕ → List ℕ
+readAs reports case k c = cond (isRead reports k) (rowAt case c ∷ []) []
+
+-- the reading case follows 27 and 31, and is not changed by space or CR
+abbrev pub readCase : Case → Kind → Case
+readCase case Still = case
+readCase case Space = case
+readCase case Return = case
+readCase case (Shift to) = to
+readCase case (Char bell) = case
+
+-- line codes go to the host in mode 1, and to the TU unchanged in mode 4
+abbrev pub lined : Connection → State → ℕ → Step
+lined (Mode1 port speed) s c = record { state = withReading s (readCase (s .reading) (kindOf c)); line = []; host = readAs (s .settings .reports) (s .reading) (kindOf c) c; tu = [] }
+lined (Mode4 port speed) s c = record { state = s; line = []; host = []; tu = c ∷ [] }
+lined Mode10 s c = quiet s
+lined Mode11 s c = quiet s
+
+abbrev pub lineStep : State → ℕ → Step
+lineStep s c = lined (s .connection) s c
+
+-- TU codes.
+
+-- an item, the wanted case being the incoming reading case
+abbrev pub carried : State → ℕ → Step
+carried s c = sends (withIncoming s (incoming (s .settings) (s .incoming) (kindOf c))) (wanted (s .incoming) c ∷ [])
+
+-- the incoming reading case that codes ask in
+abbrev pub caseOf : Asks → Case
+caseOf Text = Letters
+caseOf (Codes case) = case
+
+-- they go to the printer in mode 4
+abbrev pub tued : Connection → State → ℕ → Step
+tued (Mode1 port speed) s c = quiet s
+tued (Mode4 port speed) s c = carried s c
+tued Mode10 s c = quiet s
+tued Mode11 s c = quiet s
+
+abbrev pub tuStep : State → ℕ → Step
+tuStep s c = tued (s .connection) s c
+
+-- One byte of a stream, and many.
+
+abbrev pub step : Stream → State → ℕ → Step
+step Host s b = hostStep s b
+step Line s c = lineStep s c
+step Tu s c = tuStep s c
+
+-- An event is a byte of a stream; many events are run one after the other.
+
+pub record Event : Type 0 where
+  pub stream : Stream
+  pub byte : ℕ
+
+-- the state after events
+abbrev pub run : State → List Event → State
+run s [] = s
+run s (e ∷ es) = run (step (e .stream) s (e .byte) .state) es
+
+-- what each event did
+abbrev pub steps : State → List Event → List Step
+steps s [] = []
+steps s (e ∷ es) = step (e .stream) s (e .byte) ∷ steps (step (e .stream) s (e .byte) .state) es

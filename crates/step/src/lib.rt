@@ -1,0 +1,41 @@
+// What one byte does: the state after it, and its output in the free parts of the lent buffers.
+
+mod answers;
+pub mod host;
+pub mod line;
+mod puts;
+pub mod sends;
+pub mod soundness;
+pub mod states;
+
+use code::Case;
+use command::Reader;
+use sender::Sender;
+use settings::Connection;
+use settings::Settings;
+
+// All that the box knows. The fields' sizes: settings 14, connection 3, sender 6 (record 4, last item 2), the two cases 2, the
+// command reader 15: 40 bytes.
+pub struct State {
+    pub settings: Settings,
+    pub connection: Connection,
+    pub sender: Sender,
+    pub reading: Case,
+    pub incoming: Case,
+    pub reader: Reader,
+}
+
+// One byte's output put into one buffer: whether all of it fits, the state after the byte, and how many places were written.
+pub struct Took {
+    pub fits: bool,
+    pub state: State,
+    pub count: usize,
+}
+
+// One byte's output put into both buffers: whether all of it fits, the state after the byte, and how many places were written.
+pub struct Taken {
+    pub fits: bool,
+    pub state: State,
+    pub first: usize,
+    pub second: usize,
+}

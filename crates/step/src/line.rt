@@ -1,0 +1,76 @@
+// Line codes: to the host in mode 1, to the TU in mode 4.
+ghost use mathlib.Core.Path.{_≡_};
+ghost use Rattle.code.specs.Kinds.{kindOf};
+ghost use Rattle.step.specs.Names.{Line as Names·Line};
+ghost use Rattle.step.specs.State.{withReading};
+ghost use Rattle.step.specs.Step.{isRead, readAs, readCase, lineStep};
+ghost use Rattle.step.specs.Byte.{Puts, Offers};
+use crate::State;
+use crate::Taken;
+use crate::Took;
+use crate::puts::in_first;
+use crate::puts::in_second;
+use crate::puts::none;
+use crate::puts::put_one;
+use crate::states::with_reading;
+use code::Case;
+use code::Kind;
+use settings::Connection;
+
+// The reading case after a code of this kind.
+fn read_case(case: Case, k: Kind) -> Case
+    ensures { λ r. ⌜ r ≡ readCase case k ⌝ }
+{
+    match k {
+        Kind::Still => case,
+        Kind::Space => case,
+        Kind::Return => case,
+        Kind::Shift(to) => to,
+        Kind::Char(_) => case,
+    }
+}
+
+// Whether a code of this kind gives the host a byte.
+fn is_read(reports: bool, k: Kind) -> bool
+    ensures { λ r. ⌜ r ≡ isRead reports k ⌝ }
+{
+    match k {
+        Kind::Still => true,
+        Kind::Space => true,
+        Kind::Return => true,
+        Kind::Shift(_) => reports,
+        Kind::Char(_) => true,
+    }
+}
+
+// A line code read for the host.
+fn put_read(s: State, c: u8, out: &mut [u8]) -> Took
+    ensures { λ r. ⌜
+        Puts (withReading s (readCase (s .reading) (kindOf c))) (readAs (s .settings .reports) (s .reading) (kindOf c) c) (now (out .entry)) (now (out .exit)) r
+        ⌝ }
+{
+    let settings = s.settings;
+    let case = s.reading;
+    let k = code::kind_of(c);
+    let next = with_reading(s, read_case(case, k));
+    if is_read(settings.reports, k) {
+        put_one(next, code::row_at(case, c), out)
+    } else {
+        none(next)
+    }
+}
+
+// One line code, with the parts of the host and TU buffers that are free.
+pub fn put_line(s: State, c: u8, host: &mut [u8], tu: &mut [u8]) -> Taken
+    ensures { λ r. ⌜
+        Offers Names·Line (lineStep s c) (now (host .entry)) (now (tu .entry)) (now (host .exit)) (now (tu .exit)) r
+        ⌝ }
+{
+    let connection = s.connection;
+    match connection {
+        Connection::Mode1(_, _) => in_first(put_read(s, c, host)),
+        Connection::Mode4(_, _) => in_second(put_one(s, c, tu)),
+        Connection::Mode10 => in_first(none(s)),
+        Connection::Mode11 => in_first(none(s)),
+    }
+}

@@ -1,0 +1,112 @@
+// Items to the line, when the buffer may be short: their codes are made apart, and put into its free part if all fit.
+ghost use mathlib.Core.Path.{_≡_};
+ghost use mathlib.Core.Bool.{false};
+ghost use lib.ListN.{length};
+ghost use Rattle.settings.specs.Laws.{Sound};
+ghost use Rattle.sender.specs.Sends.{sends as codesSent, Sends};
+ghost use Rattle.step.specs.Names.{Text as Names·Text};
+ghost use Rattle.step.specs.Step.{sends, asked, text, released, carried, caseOf, tuStep};
+ghost use Rattle.step.specs.Byte.{Puts};
+ghost use Rattle.step.specs.Step.{caseOf};
+use crate::State;
+use crate::Took;
+use crate::puts::none;
+use crate::puts::put_codes;
+use crate::states::with_incoming;
+use crate::states::with_sender;
+use code::Case;
+use sender::Asks;
+use sender::Sender;
+use sender::Sent;
+use settings::Connection;
+use settings::Settings;
+
+// Text sent: the byte, and before it the `/` where that was held.
+fn send_text(o: Settings, s: Sender, slash: bool, b: u8, out: &mut [u8]) -> Sent
+    ensures { λ r. ⌜
+        Sends (codesSent o s Names·Text false (released slash b) (length (now (out .entry)))) (now (out .entry)) (now (out .exit)) r
+        ⌝ }
+{
+    let text = [b'/', b];
+    if slash {
+        sender::runs::send(o, s, Asks::Text, false, &text, out)
+    } else {
+        sender::runs::send(o, s, Asks::Text, false, &text[1..], out)
+    }
+}
+
+// Text to a line in mode 1.
+fn put_items(s: State, slash: bool, b: u8, out: &mut [u8]) -> Took
+    requires { ⌜ Sound (s .settings) (s .connection) ⌝ }
+    ensures { λ r. ⌜
+        Puts (sends s (asked (released slash b)) .state) (sends s (asked (released slash b)) .line) (now (out .entry)) (now (out .exit)) r
+        ⌝ }
+{
+    let settings = s.settings;
+    let sender = s.sender;
+    let mut codes = [0u8; 36];
+    let x = send_text(settings, sender, slash, b, &mut codes);
+    let after = x.sender;
+    let n = x.count;
+    put_codes(with_sender(s, after), &codes, n, out)
+}
+
+// Text to the line in mode 1; in the others it is dropped.
+pub fn put_text(s: State, slash: bool, b: u8, out: &mut [u8]) -> Took
+    requires { ⌜ Sound (s .settings) (s .connection) ⌝ }
+    ensures { λ r. ⌜
+        Puts (sends s (text (s .connection) (released slash b)) .state) (sends s (text (s .connection) (released slash b)) .line) (now (out .entry)) (now (out .exit)) r
+        ⌝ }
+{
+    let connection = s.connection;
+    match connection {
+        Connection::Mode1(_, _) => put_items(s, slash, b, out),
+        Connection::Mode4(_, _) => none(s),
+        Connection::Mode10 => none(s),
+        Connection::Mode11 => none(s),
+    }
+}
+
+// The incoming reading case that codes ask in.
+pub fn case_of(asks: Asks) -> Case
+    ensures { λ r. ⌜ r ≡ caseOf asks ⌝ }
+{
+    match asks {
+        Asks::Text => Case::Letters,
+        Asks::Codes(case) => case,
+    }
+}
+
+// A TU code to the printer.
+fn put_code(s: State, c: u8, out: &mut [u8]) -> Took
+    ensures { λ r. ⌜ Puts (carried s c .state) (carried s c .line) (now (out .entry)) (now (out .exit)) r ⌝ }
+{
+    let settings = s.settings;
+    let sender = s.sender;
+    let case = s.incoming;
+    let one = [c];
+    let mut codes = [0u8; 18];
+    let x = sender::runs::send(settings, sender, Asks::Codes(case), false, &one, &mut codes);
+    let after = x.sender;
+    let asks = x.asks;
+    let n = x.count;
+    put_codes(
+        with_sender(with_incoming(s, case_of(asks)), after),
+        &codes,
+        n,
+        out,
+    )
+}
+
+// One TU code, with the part of the line buffer that is free: to the printer in mode 4, and dropped in the others.
+pub fn put_tu(s: State, c: u8, line: &mut [u8]) -> Took
+    ensures { λ r. ⌜ Puts (tuStep s c .state) (tuStep s c .line) (now (line .entry)) (now (line .exit)) r ⌝ }
+{
+    let connection = s.connection;
+    match connection {
+        Connection::Mode1(_, _) => none(s),
+        Connection::Mode4(_, _) => put_code(s, c, line),
+        Connection::Mode10 => none(s),
+        Connection::Mode11 => none(s),
+    }
+}

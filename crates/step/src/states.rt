@@ -1,0 +1,132 @@
+// The state with one of its parts set anew.
+ghost use mathlib.Core.Path.{_≡_};
+ghost use Rattle.sender.specs.Item.{fresh};
+ghost use Rattle.step.specs.State.{withReader, withSender, withReading, withIncoming, withStored};
+use crate::State;
+use code::Case;
+use command::Reader;
+use sender::Column;
+use sender::Known;
+use sender::Last;
+use sender::Record;
+use sender::Sender;
+use settings::Stored;
+
+// The state with another command reader.
+pub fn with_reader(s: State, reader: Reader) -> State
+    ensures { λ r. ⌜ r ≡ withReader s reader ⌝ }
+{
+    let settings = s.settings;
+    let connection = s.connection;
+    let sender = s.sender;
+    let reading = s.reading;
+    let incoming = s.incoming;
+    State {
+        settings,
+        connection,
+        sender,
+        reading,
+        incoming,
+        reader,
+    }
+}
+
+// The state with another sender.
+pub fn with_sender(s: State, sender: Sender) -> State
+    ensures { λ r. ⌜ r ≡ withSender s sender ⌝ }
+{
+    let settings = s.settings;
+    let connection = s.connection;
+    let reading = s.reading;
+    let incoming = s.incoming;
+    let reader = s.reader;
+    State {
+        settings,
+        connection,
+        sender,
+        reading,
+        incoming,
+        reader,
+    }
+}
+
+// The state with another reading case.
+pub fn with_reading(s: State, case: Case) -> State
+    ensures { λ r. ⌜ r ≡ withReading s case ⌝ }
+{
+    let settings = s.settings;
+    let connection = s.connection;
+    let sender = s.sender;
+    let incoming = s.incoming;
+    let reader = s.reader;
+    State {
+        settings,
+        connection,
+        sender,
+        reading: case,
+        incoming,
+        reader,
+    }
+}
+
+// The state with another incoming reading case.
+pub fn with_incoming(s: State, case: Case) -> State
+    ensures { λ r. ⌜ r ≡ withIncoming s case ⌝ }
+{
+    let settings = s.settings;
+    let connection = s.connection;
+    let sender = s.sender;
+    let reading = s.reading;
+    let reader = s.reader;
+    State {
+        settings,
+        connection,
+        sender,
+        reading,
+        incoming: case,
+        reader,
+    }
+}
+
+// The sender on connection: the record unknown, no last item.
+pub fn fresh_sender() -> Sender
+    ensures { λ r. ⌜ r ≡ fresh ⌝ }
+{
+    Sender {
+        held: Record {
+            case: Known::Unknown,
+            column: Column::Unknown,
+        },
+        last: Last::Other,
+    }
+}
+
+// The state with what a command stored.
+pub fn with_stored(s: State, t: Stored) -> State
+    ensures { λ r. ⌜ r ≡ withStored s t ⌝ }
+{
+    let settings = t.settings;
+    let connection = t.connection;
+    let reader = s.reader;
+    if t.connected {
+        return State {
+            settings,
+            connection,
+            sender: fresh_sender(),
+            reading: Case::Letters,
+            incoming: Case::Letters,
+            reader,
+        };
+    }
+    let sender = s.sender;
+    let reading = s.reading;
+    let incoming = s.incoming;
+    State {
+        settings,
+        connection,
+        sender,
+        reading,
+        incoming,
+        reader,
+    }
+}
