@@ -16,7 +16,7 @@ use Rattle.step.specs.Step.{step}
 use Rattle.linebox.specs.Call.{firstOf, secondOf, refuses, fits, Done, stopped, onward, taking, call}
 use Rattle.step.specs.Laws.{mostFirst, mostSecond}
 use Rattle.linebox.specs.Ends.{firstsOf, secondsOf, outcome, fitsAt, fromSound, When, Takes, Ends}
-use Rattle.step.proofs.Most.{most-first, most-second}
+use Rattle.linebox.proofs.Most.{most-first, most-second}
 
 -- what is free after both parts
 free : (a : ℕ) (f g : List ℕ) → a - length (f ++ g) ≡ (a - length f) - length g

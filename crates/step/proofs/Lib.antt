@@ -4,5 +4,3 @@ pub mod Sent
 pub mod Answered
 pub mod Stays
 pub mod Rest
-pub mod Most
-pub mod Reached

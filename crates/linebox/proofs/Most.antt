@@ -14,13 +14,13 @@ use Rattle.settings.specs.Laws.{Sound}
 use Rattle.settings.proofs.Sent.{answers-short}
 use Rattle.sender.specs.Item.{wanted}
 use Rattle.agree.proofs.Length.{item-length, items-length}
-use Rattle.step.specs.Names.{Case, Kind, Wanted, Connection, Mode1, Mode4, Mode10, Mode11, Out, Nothing, One, Two, Finished, State, Stream, Host, Line, Tu}
+use Rattle.linebox.specs.Names.{Case, Kind, Wanted, Connection, Mode1, Mode4, Mode10, Mode11, Out, Nothing, One, Two, Finished, State, Stream, Host, Line, Tu}
 use Rattle.step.specs.State.{sound, withReader}
 use Rattle.step.specs.Step.{Step, sends, released, text, hosted, isRead, readAs, lined, tued, step}
 use Rattle.step.specs.Byte.{firstOf, secondOf}
 use Rattle.step.specs.Laws.{Parts, Few, mostFirst, mostSecond}
 use Rattle.step.proofs.Sent.{asked-few}
 use Rattle.step.proofs.Stays.{sound-parts}
 
 text-few : (k : Connection) (slash : Bool) (b : ℕ) → length (text k (released slash b)) ≤ 2
 text-few (Mode1 port speed) slash b = asked-few slash b

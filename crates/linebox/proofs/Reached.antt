@@ -18,11 +18,11 @@ use Rattle.settings.specs.Command.{commanded}
 use Rattle.sender.specs.declared.Known.the-variants.{Is}
 use Rattle.sender.specs.declared.Column.the-variants.{At}
 use Rattle.sender.specs.declared.Last.the-variants as last
-use Rattle.step.specs.Names.{Letters, Figures, Connection, Mode1, Mode4, State, Stream, Host, Line, Tu}
+use Rattle.linebox.specs.Names.{Letters, Figures, Connection, Mode1, Mode4, State, Stream, Host, Line, Tu}
 use Rattle.step.specs.State.{sound}
 use Rattle.step.specs.Step.{step}
 use Rattle.step.specs.Byte.{firstOf, secondOf}
 use Rattle.step.specs.Laws.{mostFirst, mostSecond}
 
 -- an ending is due, and each CR of it is followed by LTRS
 abbrev due : Connection → List ℕ → Stage → State
