@@ -117,6 +117,18 @@ fn put_asked(o: Settings, s: Sender, x: Conversion, out: &mut [u8]) -> Item
     put_item(o, s, wanted_as(x), out)
 }
 
+// What was sent so far.
+fn sent(sender: Sender, asks: Asks, taken: usize, count: usize) -> Sent
+    ensures { λ r. ⌜ r ≡ record { sender = sender; asks = asks; taken = taken; count = count } ⌝ }
+{
+    Sent {
+        sender,
+        asks,
+        taken,
+        count,
+    }
+}
+
 // The bytes one after the other, at the front of the buffer; up to a special one where plain ones are asked for.
 pub fn send(
     o: Settings,
@@ -137,21 +149,11 @@ pub fn send(
     let mut count = 0;
     while taken < bytes.len() {
         if out.len() - count < 18 {
-            return Sent {
-                sender,
-                asks,
-                taken,
-                count,
-            };
+            return sent(sender, asks, taken, count);
         }
         let b = bytes[taken];
         if stops(plain, asks, b) {
-            return Sent {
-                sender,
-                asks,
-                taken,
-                count,
-            };
+            return sent(sender, asks, taken, count);
         }
         let x = convert_as(asks, &table, b);
         let y = put_asked(o, sender, x, &mut out[count..]);
@@ -160,10 +162,5 @@ pub fn send(
         count += y.count;
         taken += 1;
     }
-    Sent {
-        sender,
-        asks,
-        taken,
-        count,
-    }
+    sent(sender, asks, taken, count)
 }

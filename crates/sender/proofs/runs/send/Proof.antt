@@ -28,15 +28,20 @@ loop-holds c =
 sub-if1 : tie.Need-sub-if1 Inv-loop μ-loop
 sub-if1 c = search needs
 
+sent-requires : tie.Need-sent-requires Inv-loop μ-loop
+sent-requires c κs = search needs
+
 same-length : tie.Need-same-length Inv-loop μ-loop
 same-length c = search needs
 
 returns : tie.Need-returns Inv-loop μ-loop
 returns c =
-    let m = c .before .before in
+    let e = c .before in
+    let m = e .before .before in
     let l = m .loop in
     let a = m .before .before .before .before .args in
-    no-room (a .o) (a .start) (a .first) (a .plain) (now (a .bytes)) (now (a .out)) (l .sender) (l .asks) (l .taken) (l .out) (l .count) (l .inv) (c .before .loop-test .taken) (c .if1 .taken)
+    rw (c .sent .ensures)
+    (no-room (a .o) (a .start) (a .first) (a .plain) (now (a .bytes)) (now (a .out)) (l .sender) (l .asks) (l .taken) (l .out) (l .count) (l .inv) (e .before .loop-test .taken) (e .if1 .taken))
 
 shared-slice-read-b : tie.Need-shared-slice-read-b Inv-loop μ-loop
 shared-slice-read-b c = search needs
@@ -44,16 +49,21 @@ shared-slice-read-b c = search needs
 stops-requires : tie.Need-stops-requires Inv-loop μ-loop
 stops-requires c κs = search needs
 
+sent-requires-2 : tie.Need-sent-requires-2 Inv-loop μ-loop
+sent-requires-2 c κs = search needs
+
 same-length-2 : tie.Need-same-length-2 Inv-loop μ-loop
 same-length-2 c = search needs
 
 returns-2 : tie.Need-returns-2 Inv-loop μ-loop
 returns-2 c =
-    let e = c .before .before .before in
+    let f = c .before in
+    let e = f .before .before .before in
     let m = e .before .before in
     let l = m .loop in
     let a = m .before .before .before .before .args in
-    at-special (a .o) (a .start) (a .first) (a .plain) (now (a .bytes)) (now (a .out)) (l .sender) (l .asks) (l .taken) (l .out) (l .count) (l .inv) (e .before .loop-test .taken) (e .if1 .left) (rw (c .before .stops .ensures) at (c .if2 .taken))
+    rw (c .sent2 .ensures)
+    (at-special (a .o) (a .start) (a .first) (a .plain) (now (a .bytes)) (now (a .out)) (l .sender) (l .asks) (l .taken) (l .out) (l .count) (l .inv) (e .before .loop-test .taken) (e .if1 .left) (rw (f .before .stops .ensures) at (f .if2 .taken)))
 
 slice-aggregate-convert-as : tie.Need-slice-aggregate-convert-as Inv-loop μ-loop
 slice-aggregate-convert-as c = search needs
@@ -105,15 +115,18 @@ loop-again c =
     rw (c .before .before .next-asks .ensures)
     (sends-on (a .o) (a .start) (a .first) (a .plain) (now (a .bytes)) (now (a .out)) (l .sender) (l .asks) (l .taken) (l .out) (l .count) (l .inv) (e .before .loop-test .taken) (e .if1 .left) (rw (f .before .stops .ensures) at (f .if2 .left)) _ (p .put-asked .result) (rw (p .before .before .convert-as .ensures) at (p .put-asked .ensures)))
 
+sent-requires-3 : tie.Need-sent-requires-3 Inv-loop μ-loop
+sent-requires-3 c κs = search needs
+
 same-length-3 : tie.Need-same-length-3 Inv-loop μ-loop
 same-length-3 c = search needs
 
 returns-3 : tie.Need-returns-3 Inv-loop μ-loop
 returns-3 c =
-    let m = c .before in
+    let m = c .before .before in
     let l = m .loop in
     let a = m .before .before .before .before .args in
-    all-sent (a .o) (a .start) (a .first) (a .plain) (now (a .bytes)) (now (a .out)) (l .sender) (l .asks) (l .taken) (l .out) (l .count) (l .inv) (c .loop-test .left)
+    rw (c .sent3 .ensures) (all-sent (a .o) (a .start) (a .first) (a .plain) (now (a .bytes)) (now (a .out)) (l .sender) (l .asks) (l .taken) (l .out) (l .count) (l .inv) (c .before .loop-test .left))
 
 pub send-spec : {M : Type 1} → statement M
 send-spec =
@@ -124,10 +137,12 @@ send-spec =
     table-requires
     loop-holds
     sub-if1
+    sent-requires
     same-length
     returns
     shared-slice-read-b
     stops-requires
+    sent-requires-2
     same-length-2
     returns-2
     slice-aggregate-convert-as
@@ -141,5 +156,6 @@ send-spec =
     add-taken
     loop-less
     loop-again
+    sent-requires-3
     same-length-3
     returns-3)
