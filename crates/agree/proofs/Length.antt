@@ -18,7 +18,7 @@ use Rattle.sender.proofs.Sends.{notes-append}
 use Rattle.agree.specs.Names.{Case, Letters, Figures, Kind, Still, Space, Return, Shift, Char, Conversion, Nothing, Free, Cased, Settings, Known, Is, Record, Wanted, Sender}
 use Rattle.agree.specs.Names.known
 use Rattle.sender.proofs.After.{record-after}
-use Rattle.sender.proofs.Most.{code-length}
+use Rattle.sender.proofs.Few.{code-length}
 use Rattle.agree.proofs.Folds.{item-cases}
 use Rattle.agree.proofs.Weights.{weight-code, places, column-reach}
 use Rattle.agree.proofs.Home.{Sound, sound}

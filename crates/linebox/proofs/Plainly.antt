@@ -11,7 +11,7 @@ use lib.Dec.{leb, ltb, leb·zero}
 use lib.ListN.{length, drop, length-append}
 use Rattle.sender.specs.Item.{items, afterItems, wantedOf}
 use Rattle.sender.specs.Sends.{converted, asksNext, isSpecial, most, Run, sends}
-use Rattle.sender.proofs.Most.{byte-most}
+use Rattle.step.proofs.Most.{byte-most}
 use Rattle.linebox.specs.Names.{Settings, Sender, Asks, State, Stream}
 use Rattle.step.specs.Step.{Step, step}
 use Rattle.linebox.specs.Call.{firstOf, secondOf, refuses, fits, Done, onward, before, taking}

@@ -21,7 +21,7 @@ use Rattle.sender.specs.After.{after}
 use Rattle.sender.specs.Sends.{Notes}
 use Rattle.sender.proofs.Sends.{notes-append}
 use Rattle.sender.proofs.After.{record-after}
-use Rattle.sender.proofs.Most.{kind-length}
+use Rattle.sender.proofs.Few.{kind-length}
 
 -- where the loop is: i of the string's codes are sent as p, at most two each, and the rest is still to come
 pub record Ending (o : Settings) (start : Record) (string old : List ℕ) (held : Record) (i : ℕ) (now : List ℕ) (k : ℕ) : Type 0 where

@@ -1,7 +1,7 @@
 pub mod Sends
 pub mod After
 mod Shifted
-pub mod Most
+pub mod Few
 mod Endings
 mod OneItem
 pub mod Sending

@@ -1,5 +1,6 @@
 pub mod Bytes
 pub mod Modes
+pub mod Most
 pub mod Sent
 pub mod Answered
 pub mod Stays

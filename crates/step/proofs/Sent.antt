@@ -15,7 +15,7 @@ use Rattle.code.specs.Kinds.{kindOf}
 use Rattle.sender.specs.declared.Sent.{Sent}
 use Rattle.sender.specs.Item.{items, afterItems, wanted, wantedOf, incoming}
 use Rattle.sender.specs.Sends.{Run, sends as codesSent, Sends}
-use Rattle.sender.proofs.Most.{byte-most}
+use Rattle.step.proofs.Most.{byte-most}
 use Rattle.sender.proofs.Sends.{items-append, after-append}
 use Rattle.settings.specs.Laws.{Sound}
 use Rattle.step.specs.Names.{Case, Settings, Sender, Asks, Text, Codes, State, Took}

@@ -4,7 +4,7 @@ use Prim.Native.Nat.{_+_, _≤_}
 use native.Mathlib.Omega.{arith}
 use denote.Ref.{now}
 use Rattle.sender.proofs.OneItem.{character-put}
-use Rattle.sender.proofs.Most.{kind-length}
+use Rattle.sender.proofs.Few.{kind-length}
 use borrow.Author.Needs.{needs}
 use Rattle.sender.proofs.items.put_character.Statement.{statement}
 use Rattle.sender.proofs.items.put_character.Tie as tie

@@ -7,35 +7,20 @@ use mathlib.Core.List.{List, [], _∷_, _++_, append-nil}
 use native.Mathlib.Omega.{arith}
 use lib.Dec.{eqb}
 use lib.ListN.{length, length-append}
-use Rattle.code.specs.Kinds.{kindOf, shifts, moves}
-use Rattle.sender.specs.Names.{Case, Letters, Figures, Kind, Still, Space, Return, Shift, Char, Conversion, Nothing, Free, Cased, Settings, Known, Is, Record, Wanted, Sender}
-use Rattle.sender.specs.Names.known
+use Rattle.code.specs.Kinds.{kindOf, moves}
+use Rattle.code.specs.declared.Case.the-variants.{Letters}
+use Rattle.code.specs.declared.Conversion.{Conversion}
+use Rattle.code.specs.declared.Conversion.the-variants.{Nothing, Free, Cased}
+use Rattle.settings.specs.declared.Settings.{Settings}
+use Rattle.sender.specs.declared.Record.{Record}
+use Rattle.sender.specs.declared.Wanted.{Wanted}
+use Rattle.sender.specs.declared.Sender.{Sender}
 use Rattle.sender.specs.Record.{notes}
-use Rattle.sender.specs.Code.{shiftTo, unshift, sendKind, sendAs}
+use Rattle.sender.specs.Code.{sendAs}
 use Rattle.sender.specs.Ending.{onRecord, endingCode, endingOf, untilZero, due, ending, endingBefore}
 use Rattle.sender.specs.Item.{character, lastOf, repeats, item, items, wanted, wantedOf}
 use Rattle.sender.specs.Sends.{most}
-
-shift-length : (n : Known) (want : Case) → length (shifts (shiftTo n want)) ≤ 1
-shift-length known.Unknown want = omega arith
-shift-length (Is Letters) Letters = omega arith
-shift-length (Is Letters) Figures = omega arith
-shift-length (Is Figures) Letters = omega arith
-shift-length (Is Figures) Figures = omega arith
-
-unshift-length : (b : Bool) (n : Known) → length (shifts (unshift b n)) ≤ 1
-unshift-length true n = shift-length n Letters
-unshift-length false n = omega arith
-
-pub kind-length : (o : Settings) (n : Known) (want : Case) (c : ℕ) (k : Kind) → length (sendKind o n want k c) ≤ 2
-kind-length o n want c Still = omega arith
-kind-length o n want c Space = omega (arith, unshift-length (o .onspace) n)
-kind-length o n want c Return = omega (arith, unshift-length (o .onreturn) n)
-kind-length o n want c (Shift to) = omega arith
-kind-length o n want c (Char bell) = rw (length-append (shifts (shiftTo n want)) (c ∷ [])) (omega (arith, shift-length n want))
-
-pub code-length : (o : Settings) (n : Known) (want : Case) (c : ℕ) → length (sendAs o n want c) ≤ 2
-code-length o n want c = kind-length o n want c (kindOf c)
+use Rattle.sender.proofs.Few.{code-length}
 
 ending-length : (o : Settings) (r : Record) (cs : List ℕ) → length (endingOf o r cs) ≤ 2 * length cs
 ending-length o r [] = omega arith
