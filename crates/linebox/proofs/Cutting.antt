@@ -6,7 +6,7 @@ use mathlib.Core.List.{List, [], _∷_, _++_, append-assoc}
 use native.Mathlib.Omega.{arith}
 use lib.ListN.{length, take, drop, length-append, length-take}
 use lib.Seq.{take-length, take-take, take-add, length-take-le}
-use Rattle.linebox.specs.Names.{State, Stream, Answer}
+use Rattle.linebox.specs.Names.{State, Stream}
 use Rattle.step.specs.Step.{Step, step, steps}
 use Rattle.linebox.specs.Call.{firstOf, secondOf, Done, call}
 use Rattle.linebox.specs.Ends.{events, outputs, stateOf, firstsOf, secondsOf, outcome, Cut, Fed, joined, feeding, fed}
@@ -25,10 +25,10 @@ module _ (t : Stream) where
       ∙ sym (append-assoc (f (step t s x)) (outputs f (steps s′ (events t xs))) (outputs f (steps (stateOf t s′ xs) (events t ys))))
 
   -- a call that took these bytes
-  abbrev taking : State → Answer → ℕ → List ℕ → Done
+  abbrev taking : State → ℕ → ℕ → List ℕ → Done
   taking s w n ps = record { answer = w; taken = n; state = stateOf t s ps; first = firstsOf t s ps; second = secondsOf t s ps }
 
-  fed-append : (s : State) (w : Answer) (n : ℕ) (ps qs : List ℕ) → n ≡ length ps → joined (taking s w n ps) (fed t (stateOf t s ps) qs) ≡ fed t s (ps ++ qs)
+  fed-append : (s : State) (w n : ℕ) (ps qs : List ℕ) → n ≡ length ps → joined (taking s w n ps) (fed t (stateOf t s ps) qs) ≡ fed t s (ps ++ qs)
   fed-append s w n ps qs e = rw (state-append s ps qs, outputs-append (firstOf t) s ps qs, outputs-append (secondOf t) s ps qs, length-append ps qs, e)
 
   -- a call was given ys, and the others took more

@@ -14,10 +14,10 @@ use lib.ListN.{length, getD, take, drop, drop-of-length-le, length-append, lengt
 use lib.Seq.{drop-cons, drop-drop, getD-drop, take-all}
 use Rattle.laws.specs.Written.{written, fronted, Filled}
 use Rattle.laws.proofs.Tail.{lent, fronted-more, length-fronted}
-use Rattle.linebox.specs.Names.{State, Stream, Host, Answer, All, NoRoom, NoCode, Taken, Ran, Called}
+use Rattle.linebox.specs.Names.{State, Stream, Host, Answer, NoRoom, Taken, Ran}
 use Rattle.step.specs.State.{sound, withReader}
 use Rattle.step.specs.Step.{Step, hosted, step}
-use Rattle.linebox.specs.Call.{firstOf, secondOf, refuses, fits, Done, stopped, onward, before, taking, called}
+use Rattle.linebox.specs.Call.{firstOf, secondOf, refuses, fits, Done, stopped, onward, before, taking, numberOf}
 use Rattle.step.specs.Byte.{Offers}
 use Rattle.linebox.specs.Call.{Runs, Calls}
 use Rattle.command.specs.declared.Running.{Running}
@@ -84,7 +84,7 @@ module _ (t : Stream) (start : State) (input old₁ old₂ : List ℕ) where
 
   -- where the loop stops
   pub stops : (s : State) (n : ℕ) (now₁ now₂ : List ℕ) (k₁ k₂ : ℕ) (answer : Answer) → Reached t start input old₁ old₂ s n now₁ now₂ k₁ k₂
-      → taking t s (drop n input) (length old₁ - k₁) (length old₂ - k₂) ≡ stopped answer s
+      → taking t s (drop n input) (length old₁ - k₁) (length old₂ - k₂) ≡ stopped (numberOf answer) s
       → Calls (taking t start input (length old₁) (length old₂)) old₁ old₂ now₁ now₂ (record { answer = answer; taken = n; first = k₁; second = k₂; state = s })
   stops s n now₁ now₂ k₁ k₂ answer r e = rw (r .rest, e) (record {
     gives = rw (add-zero, append-nil, append-nil, r .one .count, r .two .count);
@@ -112,17 +112,17 @@ module _ (t : Stream) (start : State) (input old₁ old₂ : List ℕ) where
       }
 
   -- why it stops: no byte is left, the next is no code, or its output does not fit
-  pub all-taken : (s : State) (n a b : ℕ) → length input ≤ n → taking t s (drop n input) a b ≡ stopped All s
+  pub all-taken : (s : State) (n a b : ℕ) → length input ≤ n → taking t s (drop n input) a b ≡ stopped 0 s
   all-taken s n a b h = rw (drop-of-length-le input h)
 
   module _ (s : State) (n : ℕ) (lt : n < length input) where
     abbrev next : Step
     next = step t s (getD input n 0)
 
-    pub no-code : (a b : ℕ) → refuses t s (getD input n 0) ≡ true → taking t s (drop n input) a b ≡ stopped NoCode s
+    pub no-code : (a b : ℕ) → refuses t s (getD input n 0) ≡ true → taking t s (drop n input) a b ≡ stopped 2 s
     no-code a b e = rw (drop-cons input n 0 lt, e)
 
-    pub no-room : (a b : ℕ) → refuses t s (getD input n 0) ≡ false → fits t next a b ≡ false → taking t s (drop n input) a b ≡ stopped NoRoom s
+    pub no-room : (a b : ℕ) → refuses t s (getD input n 0) ≡ false → fits t next a b ≡ false → taking t s (drop n input) a b ≡ stopped 1 s
     no-room a b e f = rw (drop-cons input n 0 lt, e, f)
 
     goes-on : (a b : ℕ) → refuses t s (getD input n 0) ≡ false → fits t next a b ≡ true

@@ -1,10 +1,11 @@
 -- How a call ends, said of the bytes it took: the fold over them, and the condition of each answer.
-use Prim.Native.Nat.{ℕ, _+_, _-_, _<_}
+use Prim.Native.Nat.{ℕ, zero, suc, _+_, _-_, _<_}
 use mathlib.Core.Path.{_≡_}
-use mathlib.Core.Bool.{Bool, true, false}
+use mathlib.Core.Bool.{Bool, true, false, not}
 use mathlib.Core.List.{List, [], _∷_, _++_}
+use lib.Dec.{eqb}
 use lib.ListN.{length, getD, take, drop}
-use Rattle.linebox.specs.Names.{State, Stream, Answer, All, NoRoom, NoCode, Unsound}
+use Rattle.linebox.specs.Names.{State, Stream}
 use Rattle.step.specs.State.{sound}
 use Rattle.step.specs.Step.{Step, step, Event, run, steps}
 use Rattle.linebox.specs.Call.{firstOf, secondOf, refuses, fits, Done, call}
@@ -30,7 +31,7 @@ abbrev pub secondsOf : Stream → State → List ℕ → List ℕ
 secondsOf t s xs = outputs (secondOf t) (steps s (events t xs))
 
 -- the outcome with that answer and the first n bytes taken
-abbrev pub outcome : Stream → State → List ℕ → Answer → ℕ → Done
+abbrev pub outcome : Stream → State → List ℕ → ℕ → ℕ → Done
 outcome t s xs w n = record { answer = w; taken = n; state = stateOf t s (take n xs); first = firstsOf t s (take n xs); second = secondsOf t s (take n xs) }
 
 -- The next byte, when the first n are taken.
@@ -45,19 +46,17 @@ fitsAt t s xs a b n = fits t (step t (stateOf t s (take n xs)) (getD xs n 0)) (a
 
 -- Exactly when each answer comes.
 
--- the state handed in is sound
-abbrev pub fromSound : Answer → Bool
-fromSound All = true
-fromSound NoRoom = true
-fromSound NoCode = true
-fromSound Unsound = false
+-- the state handed in is sound with each but 3
+abbrev pub fromSound : ℕ → Bool
+fromSound w = not (eqb w 3)
 
--- of the bytes taken and the next one
-abbrev pub When : Stream → State → List ℕ → ℕ → ℕ → ℕ → Answer → Type 0
-When t s xs a b n All = n ≡ length xs
-When t s xs a b n NoRoom = (n < length xs) × ((refusesAt t s xs n ≡ false) × (fitsAt t s xs a b n ≡ false))
-When t s xs a b n NoCode = (n < length xs) × (refusesAt t s xs n ≡ true)
-When t s xs a b n Unsound = n ≡ 0
+-- of the bytes taken and the next one, for the answers 0, 1, 2 and 3; there is no other
+abbrev pub When : Stream → State → List ℕ → ℕ → ℕ → ℕ → ℕ → Type 0
+When t s xs a b n zero = n ≡ length xs
+When t s xs a b n (suc zero) = (n < length xs) × ((refusesAt t s xs n ≡ false) × (fitsAt t s xs a b n ≡ false))
+When t s xs a b n (suc (suc zero)) = (n < length xs) × (refusesAt t s xs n ≡ true)
+When t s xs a b n (suc (suc (suc zero))) = n ≡ 0
+When t s xs a b n (suc (suc (suc (suc w)))) = ⊥
 
 -- a byte is taken that is not refused and whose output fits
 pub record Takes (t : Stream) (s : State) (xs : List ℕ) (a b n : ℕ) : Type 0 where
@@ -65,7 +64,7 @@ pub record Takes (t : Stream) (s : State) (xs : List ℕ) (a b n : ℕ) : Type 0
   pub fits : fitsAt t s xs a b n ≡ true
 
 -- the state, each byte taken, and the next one
-pub record Ends (t : Stream) (s : State) (xs : List ℕ) (a b : ℕ) (w : Answer) (n : ℕ) : Type 0 where
+pub record Ends (t : Stream) (s : State) (xs : List ℕ) (a b w n : ℕ) : Type 0 where
   pub state : sound s ≡ fromSound w
   pub before : (i : ℕ) → i < n → Takes t s xs a b i
   pub next : When t s xs a b n w

@@ -1,4 +1,6 @@
 // The box: three calls, four answers.
+ghost use mathlib.Core.Path.{_≡_};
+ghost use Rattle.linebox.specs.Call.{numberOf};
 
 pub mod calls;
 mod runs;
@@ -12,6 +14,18 @@ pub enum Answer {
     NoRoom,
     NoCode,
     Unsound,
+}
+
+// The paper's number of an answer.
+pub fn number_of(a: Answer) -> u32
+    ensures { λ r. ⌜ r ≡ numberOf a ⌝ }
+{
+    match a {
+        Answer::All => 0,
+        Answer::NoRoom => 1,
+        Answer::NoCode => 2,
+        Answer::Unsound => 3,
+    }
 }
 
 // A run of bytes that wrote to the first buffer alone: the state after it, how many bytes they were, and how many places were written.
