@@ -6,8 +6,8 @@ use mathlib.Core.List.{List, [], _∷_}
 use lib.ListN.{length}
 use Rattle.laws.specs.Written.{fronted}
 use Rattle.step.specs.State.{sound}
-use Rattle.linebox.specs.Call.{Done, call, stopped, numberOf}
-use Rattle.board.specs.Names.{Stream, Unsound}
+use Rattle.linebox.specs.Call.{Done, call, stopped}
+use Rattle.board.specs.Names.{Stream}
 use Rattle.spelling.specs.Spelling.{spells, spelt, stateOf}
 
 -- the bytes are the spelling of a sound state
@@ -16,7 +16,7 @@ spellsSound b = spells b && sound (stateOf b)
 
 -- the box's own call on the state that the bytes spell, with this room in the two buffers; answer 3 where they spell none
 abbrev pub asked : Stream → List ℕ → List ℕ → ℕ → ℕ → Done
-asked t b xs n m = cond (spells b) (call t (stateOf b) xs n m) (stopped Unsound (stateOf b))
+asked t b xs n m = cond (spells b) (call t (stateOf b) xs n m) (stopped 3 (stateOf b))
 
 -- the state's bytes after it; what is not the spelling of a sound state stays
 abbrev pub after : List ℕ → Done → List ℕ
@@ -25,7 +25,7 @@ after b d = cond (spellsSound b) (spelt (d .state)) b
 -- A call that lends two buffers: the answer's number, the state's bytes, what was taken and what was written to each buffer in the
 -- order lent, and every byte of the buffers.
 pub record Boards (b : List ℕ) (d : Done) (old₁ old₂ state now₁ now₂ done : List ℕ) (r : ℕ) : Type 0 where
-  pub answer : r ≡ numberOf (d .answer)
+  pub answer : r ≡ d .answer
   pub bytes : state ≡ after b d
   pub told : done ≡ d .taken ∷ length (d .first) ∷ length (d .second) ∷ []
   pub one : now₁ ≡ fronted old₁ (d .first)
@@ -33,7 +33,7 @@ pub record Boards (b : List ℕ) (d : Done) (old₁ old₂ state now₁ now₂ d
 
 -- the same with one buffer
 pub record BoardsOne (b : List ℕ) (d : Done) (old state now done : List ℕ) (r : ℕ) : Type 0 where
-  pub answer : r ≡ numberOf (d .answer)
+  pub answer : r ≡ d .answer
   pub bytes : state ≡ after b d
   pub told : done ≡ d .taken ∷ length (d .first) ∷ []
   pub one : now ≡ fronted old (d .first)

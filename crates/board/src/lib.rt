@@ -3,27 +3,14 @@ ghost use mathlib.Core.Path.{_≡_};
 ghost use mathlib.Core.List.{[], _∷_};
 ghost use lib.ListN.{length};
 ghost use Rattle.step.specs.State.{freshBox};
-ghost use Rattle.linebox.specs.Call.{numberOf};
 ghost use Rattle.board.specs.Names.{Host as Names·Host, Line as Names·Line, Tu as Names·Tu};
 ghost use Rattle.spelling.specs.Spelling.{spelt};
 ghost use Rattle.board.specs.Calls.{asked, Boards, BoardsOne};
 ghost use Rattle.board.specs.Finds.{Finds};
-use linebox::Answer;
 use linebox::Called;
+use linebox::number_of;
 use spelling::load::load;
 use spelling::save::save;
-
-// The number of an answer.
-fn number_of(a: Answer) -> u32
-    ensures { λ r. ⌜ r ≡ numberOf a ⌝ }
-{
-    match a {
-        Answer::All => 0,
-        Answer::NoRoom => 1,
-        Answer::NoCode => 2,
-        Answer::Unsound => 3,
-    }
-}
 
 // What was taken, and what was written to each buffer in the order lent.
 fn counts(c: Called) -> [u64; 3]

@@ -1,21 +1,22 @@
 -- Demand 1 of our box, from the laws of how a call ends: a count of bytes taken and a split of the input say the same.
 -- Assumes nothing.
-use Prim.Native.Nat.{ℕ, suc, _+_, _≤_, _<_, min}
-use mathlib.Core.Path.{_≡_, refl, sym, ap, _∙_}
+use Prim.Native.Nat.{ℕ, zero, suc, _+_, _≤_, _<_, min}
+use mathlib.Core.Path.{_≡_, refl, sym, ap, _∙_, subst}
+use mathlib.Core.Bool.{Bool, true, false, cond, true≢false}
 use mathlib.Core.List.{List, [], _∷_, _++_, append-assoc, append-nil}
 use native.Mathlib.Omega.{arith}
 use native.Mathlib.Nat.{le-of-eq}
 use lib.ListN.{length, getD, take, drop, length-append, length-take, take-append-drop, drop-of-length-le}
 use lib.Seq.{drop-cons, split-at, take-at, getD-at, length-take-le}
 use Rattle.laws.specs.Written.{fronted}
-use Rattle.linebox.specs.Call.{Done, call, called}
-use Rattle.linebox.specs.Call.{Calls, CallsOne}
-use Rattle.linebox.specs.Ends.{outcome, When, Takes, Ends}
+use Rattle.step.specs.State.{sound}
+use Rattle.linebox.specs.Call.{Done, Told, call, called, told as toldOf, Calls, CallsOne}
+use Rattle.linebox.specs.Ends.{outcome, fromSound, When, Takes, Ends}
 use Rattle.linebox.proofs.Ending.{ends, folds, only, one, within, call-fits}
-use Rattle.demands.specs.Names.{State, Stream, Tu, Answer, All, NoRoom, NoCode, Unsound, Called}
+use Rattle.demands.specs.Names.{State, Stream, Tu, Called}
 use Rattle.demands.specs.Box.{Result, Box, resulting, ours}
 use Rattle.demands.specs.ExactCodes.{ExactCodes}
-use Rattle.demands.specs.EveryCall.{Goes, Exactly, Splits, Ended, EveryCall}
+use Rattle.demands.specs.EveryCall.{noCode, hasRoom, Goes, Exactly, Next, Answers, Splits, Ended, EveryCall}
 
 module _ (t : Stream) (s : State) (a b : ℕ) where
   -- A byte and those before it.
@@ -32,52 +33,113 @@ module _ (t : Stream) (s : State) (a b : ℕ) where
       let q : getD xs i 0 ≡ x = rw e (getD-at before x more 0 i l) in
       record { accepts = rw (p, q) (h .code); fits = rw (p, q) (h .room) }
 
+  -- An answer's condition, by its number.
+
+  module _ (taken rest : List ℕ) where
+    abbrev Stands : ℕ → Type 0
+    Stands zero = (sound s ≡ true) × (rest ≡ [])
+    Stands (suc zero) = (sound s ≡ true) × Next (λ x. (noCode t s taken x ≡ false) × (hasRoom t s a b taken x ≡ false)) rest
+    Stands (suc (suc zero)) = (sound s ≡ true) × Next (λ x. noCode t s taken x ≡ true) rest
+    Stands (suc (suc (suc zero))) = sound s ≡ false
+    Stands (suc (suc (suc (suc w)))) = ⊥
+
+  -- at most one stands: the state and the next byte tell which
+  abbrev number : List ℕ → Bool → List ℕ → ℕ
+  number taken false rest = 3
+  number taken true [] = 0
+  number taken true (x ∷ rest) = cond (noCode t s taken x) 2 (cond (hasRoom t s a b taken x) 4 1)
+
+  told : (taken rest : List ℕ) (w : ℕ) → Stands taken rest w → number taken (sound s) rest ≡ w
+  told taken rest zero h = rw (h .0, h .1)
+  told taken [] (suc zero) h = absurd (h .1)
+  told taken (x ∷ rest) (suc zero) h = rw (h .0, h .1 .0, h .1 .1)
+  told taken [] (suc (suc zero)) h = absurd (h .1)
+  told taken (x ∷ rest) (suc (suc zero)) h = rw (h .0, h .1)
+  told taken rest (suc (suc (suc zero))) h = rw h
+  told taken rest (suc (suc (suc (suc w)))) h = absurd h
+
+  four : (taken rest : List ℕ) (w : ℕ) → Stands taken rest w → w < 4
+  four taken rest zero h = omega arith
+  four taken rest (suc zero) h = omega arith
+  four taken rest (suc (suc zero)) h = omega arith
+  four taken rest (suc (suc (suc zero))) h = omega arith
+  four taken rest (suc (suc (suc (suc w)))) h = absurd h
+
+  exact : (taken rest : List ℕ) (w v : ℕ) → Stands taken rest w → Exactly (w ≡ v) (Stands taken rest v)
+  exact taken rest w v h = record { only = λ e. subst (Stands taken rest) e h; then = λ k. sym (told taken rest w h) ∙ told taken rest v k }
+
+  answers : (taken rest : List ℕ) (w : ℕ) → Stands taken rest w → Answers t s a b w taken rest
+  answers taken rest w h = record { four = four taken rest w h; zero = exact taken rest w 0 h; one = exact taken rest w 1 h; two = exact taken rest w 2 h; three = exact taken rest w 3 h }
+
+  stands : (taken rest : List ℕ) (w : ℕ) → Answers t s a b w taken rest → Stands taken rest w
+  stands taken rest zero h = h .zero .only refl
+  stands taken rest (suc zero) h = h .one .only refl
+  stands taken rest (suc (suc zero)) h = h .two .only refl
+  stands taken rest (suc (suc (suc zero))) h = h .three .only refl
+  stands taken rest (suc (suc (suc (suc w)))) h = absurd (omega (arith, h .four))
+
   -- A count gives a split.
 
-  exactly : (xs : List ℕ) (n : ℕ) (w : Answer) → When t s xs a b n w → Exactly t s a b w (take n xs) (drop n xs)
-  exactly xs n All h = drop-of-length-le xs (le-of-eq (sym h))
-  exactly xs n NoRoom h = rw (drop-cons xs n 0 (h .0)) (h .1)
-  exactly xs n NoCode h = rw (drop-cons xs n 0 (h .0)) (h .1)
-  exactly xs n Unsound h = rw h refl
+  counted : (xs : List ℕ) (n w : ℕ) → sound s ≡ fromSound w → When t s xs a b n w → Stands (take n xs) (drop n xs) w
+  counted xs n zero e h = (e, drop-of-length-le xs (le-of-eq (sym h)))
+  counted xs n (suc zero) e h = rw (drop-cons xs n 0 (h .0)) (e, h .1)
+  counted xs n (suc (suc zero)) e h = rw (drop-cons xs n 0 (h .0)) (e, h .1)
+  counted xs n (suc (suc (suc zero))) e h = e
+  counted xs n (suc (suc (suc (suc w)))) e h = absurd h
 
-  splits : (xs : List ℕ) (w : Answer) (n : ℕ) → Ends t s xs a b w n → Splits t s xs a b w (take n xs) (drop n xs)
+  unsound : (xs : List ℕ) (n w : ℕ) → sound s ≡ fromSound w → When t s xs a b n w → sound s ≡ false → take n xs ≡ []
+  unsound xs n zero e h f = absurd (true≢false (sym e ∙ f))
+  unsound xs n (suc zero) e h f = absurd (true≢false (sym e ∙ f))
+  unsound xs n (suc (suc zero)) e h f = absurd (true≢false (sym e ∙ f))
+  unsound xs n (suc (suc (suc zero))) e h f = rw h
+  unsound xs n (suc (suc (suc (suc w)))) e h f = absurd h
+
+  splits : (xs : List ℕ) (w n : ℕ) → Ends t s xs a b w n → Splits t s xs a b w (take n xs) (drop n xs)
   splits xs w n h = record {
     whole = sym (take-append-drop n xs);
-    state = h .state;
     each = λ before x others e.
         let l : length (take n xs) ≡ length before + suc (length others) = rw e (length-append before (x ∷ others)) in
         let m : length (take n xs) ≡ min n (length xs) = length-take n xs in
         let i : length before < n = omega (arith, l, m) in
         let f : xs ≡ before ++ (x ∷ (others ++ drop n xs)) = sym (take-append-drop n xs) ∙ ap (λ (r : List ℕ). r ++ drop n xs) e ∙ append-assoc before (x ∷ others) (drop n xs) in
         goes xs before x (others ++ drop n xs) (length before) f refl (h .before (length before) i);
-    next = exactly xs n w (h .next);
+    nothing = unsound xs n w (h .state) (h .next);
+    answer = answers (take n xs) (drop n xs) w (counted xs n w (h .state) (h .next));
   }
 
   -- A split gives a count.
 
-  when : (taken rest : List ℕ) (w : Answer) → Exactly t s a b w taken rest → When t s (taken ++ rest) a b (length taken) w
-  when taken rest All h = rw h (rw append-nil refl)
-  when taken [] NoRoom h = absurd h
-  when taken (x ∷ rest) NoRoom h =
+  when : (taken rest : List ℕ) (w : ℕ) → (sound s ≡ false → taken ≡ []) → Stands taken rest w → When t s (taken ++ rest) a b (length taken) w
+  when taken rest zero none h = rw (h .1) (rw append-nil refl)
+  when taken [] (suc zero) none h = absurd (h .1)
+  when taken (x ∷ rest) (suc zero) none h =
       let p : take (length taken) (taken ++ (x ∷ rest)) ≡ taken = take-at taken (x ∷ rest) (length taken) refl in
       let q : getD (taken ++ (x ∷ rest)) (length taken) 0 ≡ x = getD-at taken x rest 0 (length taken) refl in
-      (rw (length-append taken (x ∷ rest)) (omega arith), (rw (p, q) (h .0), rw (p, q) (h .1)))
-  when taken [] NoCode h = absurd h
-  when taken (x ∷ rest) NoCode h =
+      (rw (length-append taken (x ∷ rest)) (omega arith), (rw (p, q) (h .1 .0), rw (p, q) (h .1 .1)))
+  when taken [] (suc (suc zero)) none h = absurd (h .1)
+  when taken (x ∷ rest) (suc (suc zero)) none h =
       let p : take (length taken) (taken ++ (x ∷ rest)) ≡ taken = take-at taken (x ∷ rest) (length taken) refl in
       let q : getD (taken ++ (x ∷ rest)) (length taken) 0 ≡ x = getD-at taken x rest 0 (length taken) refl in
-      (rw (length-append taken (x ∷ rest)) (omega arith), rw (p, q) h)
-  when taken rest Unsound h = ap length h
+      (rw (length-append taken (x ∷ rest)) (omega arith), rw (p, q) (h .1))
+  when taken rest (suc (suc (suc zero))) none h = ap length (none h)
+  when taken rest (suc (suc (suc (suc w)))) none h = absurd h
 
-  counts : (xs : List ℕ) (w : Answer) (taken rest : List ℕ) → Splits t s xs a b w taken rest → Ends t s xs a b w (length taken)
+  handed : (taken rest : List ℕ) (w : ℕ) → Stands taken rest w → sound s ≡ fromSound w
+  handed taken rest zero h = h .0
+  handed taken rest (suc zero) h = h .0
+  handed taken rest (suc (suc zero)) h = h .0
+  handed taken rest (suc (suc (suc zero))) h = h
+  handed taken rest (suc (suc (suc (suc w)))) h = absurd h
+
+  counts : (xs : List ℕ) (w : ℕ) (taken rest : List ℕ) → Splits t s xs a b w taken rest → Ends t s xs a b w (length taken)
   counts xs w taken rest h = record {
-    state = h .state;
+    state = handed taken rest w (stands taken rest w (h .answer));
     before = λ i l.
         let e : taken ≡ take i taken ++ (getD taken i 0 ∷ drop (suc i) taken) = split-at taken i 0 l in
         let f : xs ≡ take i taken ++ (getD taken i 0 ∷ (drop (suc i) taken ++ rest)) = h .whole ∙ ap (λ (r : List ℕ). r ++ rest) e ∙ append-assoc (take i taken) (getD taken i 0 ∷ drop (suc i) taken) rest in
         let m : i ≤ length taken = omega (arith, l) in
         takes xs (take i taken) (getD taken i 0) (drop (suc i) taken ++ rest) i f (length-take-le i taken m) (h .each (take i taken) (getD taken i 0) (drop (suc i) taken) e);
-    next = rw (h .whole) (when taken rest w (h .next));
+    next = rw (h .whole) (when taken rest w (h .nothing) (stands taken rest w (h .answer)));
   }
 
 -- What the call's definition gives follows the bytes it took.
@@ -107,7 +169,7 @@ ours-every-call t s xs one two =
 
 -- What a call's code promises is our box's result.
 pub promised : (t : Stream) (s : State) (xs one two now₁ now₂ : List ℕ) (r : Called) → Calls (call t s xs (length one) (length two)) one two now₁ now₂ r
-    → ours t s xs one two ≡ record { gives = r; first = now₁; second = now₂ }
+    → ours t s xs one two ≡ record { gives = toldOf r; first = now₁; second = now₂ }
 promised t s xs one two now₁ now₂ r p = rw (p .gives, p .one, p .two)
 
 -- A TU call is lent one buffer.
@@ -116,7 +178,7 @@ none : (xs : List ℕ) → length xs ≤ 0 → xs ≡ []
 none [] h = refl
 none (x ∷ xs) h = absurd (omega (arith, h))
 
-pub promised-tu : (s : State) (xs one now : List ℕ) (r : Called) → CallsOne (call Tu s xs (length one) 0) one now r → ours Tu s xs one [] ≡ record { gives = r; first = now; second = [] }
+pub promised-tu : (s : State) (xs one now : List ℕ) (r : Called) → CallsOne (call Tu s xs (length one) 0) one now r → ours Tu s xs one [] ≡ record { gives = toldOf r; first = now; second = [] }
 promised-tu s xs one now r p =
     let d = call Tu s xs (length one) 0 in
     let e : d .second ≡ [] = none (d .second) (call-fits Tu s xs (length one) 0 .1) in
@@ -138,7 +200,7 @@ ended-ours t s xs one two r h =
     u ∙ ap (λ (d : Done). resulting d one two) (sym e)
 
 -- exactly one answer stands, after exactly one stretch of bytes taken
-pub one-answer : (t : Stream) (s : State) (xs : List ℕ) (a b : ℕ) (w v : Answer) (taken rest taken′ rest′ : List ℕ) → Splits t s xs a b w taken rest → Splits t s xs a b v taken′ rest′
+pub one-answer : (t : Stream) (s : State) (xs : List ℕ) (a b : ℕ) (w v : ℕ) (taken rest taken′ rest′ : List ℕ) → Splits t s xs a b w taken rest → Splits t s xs a b v taken′ rest′
     → (w ≡ v) × (taken ≡ taken′)
 one-answer t s xs a b w v taken rest taken′ rest′ h k =
     let e = one t s xs a b w v (length taken) (length taken′) (counts t s a b xs w taken rest h) (counts t s a b xs v taken′ rest′ k) in
@@ -148,8 +210,12 @@ one-answer t s xs a b w v taken rest taken′ rest′ h k =
 pub every-call-decides : (x y : Box) → EveryCall x → EveryCall y → (t : Stream) (s : State) (xs one two : List ℕ) → x t s xs one two ≡ y t s xs one two
 every-call-decides x y p q t s xs one two = ended-ours t s xs one two (x t s xs one two) (p t s xs one two) ∙ sym (ended-ours t s xs one two (y t s xs one two) (q t s xs one two))
 
+-- so a box that differs from ours on any one call fails it
+pub differs-fails : (x : Box) (t : Stream) (s : State) (xs one two : List ℕ) → (x t s xs one two ≡ ours t s xs one two → ⊥) → EveryCall x → ⊥
+differs-fails x t s xs one two differs h = differs (every-call-decides x ours h ours-every-call t s xs one two)
+
 -- exactly when: where an answer's condition stands of a split, a box that meets demand 1 gives that answer and takes those bytes
-pub exactly-when : (x : Box) → EveryCall x → (t : Stream) (s : State) (xs one two : List ℕ) (w : Answer) (taken rest : List ℕ) → Splits t s xs (length one) (length two) w taken rest
+pub exactly-when : (x : Box) → EveryCall x → (t : Stream) (s : State) (xs one two : List ℕ) (w : ℕ) (taken rest : List ℕ) → Splits t s xs (length one) (length two) w taken rest
     → (x t s xs one two .gives .answer ≡ w) × (x t s xs one two .gives .taken ≡ length taken)
 exactly-when x p t s xs one two w taken rest h =
     let e = ended-ours t s xs one two (x t s xs one two) (p t s xs one two)

@@ -11,7 +11,7 @@ use Rattle.code.specs.Convert.{conversion}
 use Rattle.settings.specs.Table.{factory, soundString}
 use Rattle.command.specs.Read.{idle}
 use Rattle.sender.specs.Item.{fresh}
-use Rattle.demands.specs.Names.{Letters, Mode1, State, Host, Answer}
+use Rattle.demands.specs.Names.{Letters, Mode1, State, Host}
 use Rattle.demands.specs.Box.{Result, Box, ours}
 use Rattle.demands.specs.EveryCall.{EveryCall}
 use Rattle.demands.specs.ExactCodes.{ExactCodes}
@@ -31,7 +31,7 @@ gives : (box : Box) → EveryCall box → (xs : List ℕ) → box Host connected
 gives box h xs = every-call-decides box ours h ours-every-call Host connected xs room room
 
 -- A box that always stops fails demand 1: it takes nothing of `A`.
-pub stops-fails : (w : Answer) → EveryCall (stops w) → ⊥
+pub stops-fails : (w : ℕ) → EveryCall (stops w) → ⊥
 unfolding soundString conversion kindOf rowAt
 stops-fails w h =
     let e : _≡_ {A = ℕ} 0 1 = ap (λ (r : Result). r .gives .taken) (gives (stops w) h (65 ∷ [])) in

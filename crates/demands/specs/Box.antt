@@ -3,12 +3,12 @@ use Prim.Native.Nat.{ℕ}
 use mathlib.Core.List.{List}
 use lib.ListN.{length}
 use Rattle.laws.specs.Written.{fronted}
-use Rattle.linebox.specs.Call.{Done, call, called}
-use Rattle.demands.specs.Names.{State, Stream, Called}
+use Rattle.linebox.specs.Call.{Done, Told, call, called}
+use Rattle.demands.specs.Names.{State, Stream}
 
--- what a call gives: its answer, counts and state, and the two lent buffers after it
+-- what a call gives: its answer's number, counts and state, and the two lent buffers after it
 pub record Result : Type 0 where
-  pub gives : Called
+  pub gives : Told
   pub first : List ℕ
   pub second : List ℕ
 

@@ -1,5 +1,5 @@
 -- Demand 1: how a call ends, said of the bytes taken and the rest, over what one byte does and over lengths.
-use Prim.Native.Nat.{ℕ, _-_}
+use Prim.Native.Nat.{ℕ, _-_, _<_}
 use mathlib.Core.Path.{_≡_}
 use mathlib.Core.Bool.{Bool, true, false}
 use mathlib.Core.List.{List, [], _∷_, _++_}
@@ -7,8 +7,8 @@ use lib.ListN.{length}
 use Rattle.step.specs.State.{sound}
 use Rattle.step.specs.Step.{step}
 use Rattle.linebox.specs.Call.{refuses, fits}
-use Rattle.linebox.specs.Ends.{stateOf, firstsOf, secondsOf, fromSound}
-use Rattle.demands.specs.Names.{State, Stream, Answer, All, NoRoom, NoCode, Unsound}
+use Rattle.linebox.specs.Ends.{stateOf, firstsOf, secondsOf}
+use Rattle.demands.specs.Names.{State, Stream}
 use Rattle.demands.specs.Box.{Result, Box}
 use Rattle.demands.specs.ExactCodes.{Wrote}
 
@@ -27,24 +27,36 @@ pub record Goes (t : Stream) (s : State) (a b : ℕ) (before : List ℕ) (x : �
   pub code : noCode t s before x ≡ false
   pub room : hasRoom t s a b before x ≡ true
 
--- Exactly when: 0, all bytes are taken; 1, the next byte's whole output does not fit one of the buffers; 2, the next byte of a
--- code stream is over 31, and room is not looked at; 3, nothing is taken.
-abbrev pub Exactly : Stream → State → ℕ → ℕ → Answer → List ℕ → List ℕ → Type 0
-Exactly t s a b All taken rest = rest ≡ []
-Exactly t s a b NoRoom taken [] = ⊥
-Exactly t s a b NoRoom taken (x ∷ rest) = (noCode t s taken x ≡ false) × (hasRoom t s a b taken x ≡ false)
-Exactly t s a b NoCode taken [] = ⊥
-Exactly t s a b NoCode taken (x ∷ rest) = noCode t s taken x ≡ true
-Exactly t s a b Unsound taken rest = taken ≡ []
+-- P exactly if Q
+pub record Exactly (P Q : Type 0) : Type 0 where
+  pub only : P → Q
+  pub then : Q → P
+
+-- there is a next byte, and this holds of it
+abbrev pub Next : (ℕ → Type 0) → List ℕ → Type 0
+Next P [] = ⊥
+Next P (x ∷ rest) = P x
+
+-- one of four numbered answers, each exactly when its condition holds
+pub record Answers (t : Stream) (s : State) (a b w : ℕ) (taken rest : List ℕ) : Type 0 where
+  pub four : w < 4
+  -- all bytes are taken
+  pub zero : Exactly (w ≡ 0) ((sound s ≡ true) × (rest ≡ []))
+  -- the next byte's whole output does not fit one of the buffers
+  pub one : Exactly (w ≡ 1) ((sound s ≡ true) × Next (λ x. (noCode t s taken x ≡ false) × (hasRoom t s a b taken x ≡ false)) rest)
+  -- the next byte of a code stream is over 31; room is not looked at
+  pub two : Exactly (w ≡ 2) ((sound s ≡ true) × Next (λ x. noCode t s taken x ≡ true) rest)
+  -- the state handed in is not sound
+  pub three : Exactly (w ≡ 3) (sound s ≡ false)
 
 -- the input is split into bytes taken and the rest, and the answer is the one for that split
-pub record Splits (t : Stream) (s : State) (xs : List ℕ) (a b : ℕ) (w : Answer) (taken rest : List ℕ) : Type 0 where
+pub record Splits (t : Stream) (s : State) (xs : List ℕ) (a b w : ℕ) (taken rest : List ℕ) : Type 0 where
   pub whole : xs ≡ taken ++ rest
-  -- 3 is answered exactly if the state handed in is not sound
-  pub state : sound s ≡ fromSound w
   -- every byte taken goes, after those before it
   pub each : (before : List ℕ) (x : ℕ) (others : List ℕ) → taken ≡ before ++ (x ∷ others) → Goes t s a b before x
-  pub next : Exactly t s a b w taken rest
+  -- from a state that is not sound nothing is taken
+  pub nothing : sound s ≡ false → taken ≡ []
+  pub answer : Answers t s a b w taken rest
 
 -- what a call gives: everything follows the bytes taken
 pub record Ended (t : Stream) (s : State) (xs one two : List ℕ) (r : Result) : Type 0 where

@@ -9,7 +9,7 @@ use Rattle.step.specs.State.{freshBox, sound, withSender}
 use Rattle.step.specs.Step.{Step, step}
 use Rattle.linebox.specs.Call.{firstOf, secondOf, refuses, fits, Done, stopped, onward, call}
 use Rattle.linebox.specs.Ends.{firstsOf}
-use Rattle.demands.specs.Names.{State, Stream, Host, All, NoRoom, NoCode, Unsound}
+use Rattle.demands.specs.Names.{State, Stream, Host}
 use Rattle.demands.specs.Box.{Box, resulting}
 use Rattle.demands.specs.Traces.{endings}
 
@@ -22,16 +22,16 @@ forgetStep t s b = let x = step t (forgetting s) b in record { state = forgettin
 
 -- all else is as it should be
 abbrev pub forgetTaking : Stream → State → List ℕ → ℕ → ℕ → Done
-forgetTaking t s [] a b = stopped All s
+forgetTaking t s [] a b = stopped 0 s
 forgetTaking t s (x ∷ xs) a b =
     let y = forgetStep t s x in
-    cond (refuses t s x) (stopped NoCode s)
+    cond (refuses t s x) (stopped 2 s)
     (cond (fits t y a b)
     (onward t y (forgetTaking t (y .state) xs (a - length (firstOf t y)) (b - length (secondOf t y))))
-    (stopped NoRoom s))
+    (stopped 1 s))
 
 abbrev pub forgetful : Box
-forgetful t s xs one two = resulting (cond (sound s) (forgetTaking t s xs (length one) (length two)) (stopped Unsound s)) one two
+forgetful t s xs one two = resulting (cond (sound s) (forgetTaking t s xs (length one) (length two)) (stopped 3 s)) one two
 
 -- Where it goes wrong: in mode 1 with limit 10 and 49 on, a return and eleven spaces.
 

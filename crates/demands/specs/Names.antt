@@ -26,6 +26,4 @@ pub use Rattle.printer.specs.declared.Printer.{Printer}
 pub use Rattle.printer.specs.declared.Mark.{Mark}
 pub use Rattle.step.specs.declared.State.{State}
 pub use Rattle.step.specs.Stream.{Stream, Host, Line, Tu}
-pub use Rattle.linebox.specs.declared.Answer.{Answer}
-pub use Rattle.linebox.specs.declared.Answer.the-variants.{All, NoRoom, NoCode, Unsound}
 pub use Rattle.linebox.specs.declared.Called.{Called}

@@ -4,11 +4,10 @@ use mathlib.Core.List.{List, []}
 use lib.ListN.{length, take}
 use Rattle.laws.specs.Written.{fronted}
 use Rattle.linebox.specs.Call.{stopped}
-use Rattle.demands.specs.Names.{Answer}
 use Rattle.demands.specs.Box.{Result, Box, resulting, ours}
 
 -- always stops, with any answer
-abbrev pub stops : Answer → Box
+abbrev pub stops : ℕ → Box
 stops w t s xs one two = resulting (stopped w s) one two
 
 -- Our box's results, with a part changed.

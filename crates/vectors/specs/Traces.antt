@@ -8,8 +8,6 @@ use Rattle.settings.specs.declared.Settings.{Settings}
 use Rattle.step.specs.declared.State.{State}
 use Rattle.vectors.specs.declared.traces.Stream.{Stream}
 use Rattle.vectors.specs.declared.traces.Stream.the-variants.{Host, Line, Tu}
-use Rattle.linebox.specs.declared.Answer.{Answer}
-use Rattle.linebox.specs.declared.Answer.the-variants.{All, NoRoom, NoCode, Unsound}
 use Rattle.vectors.specs.declared.text.Form.{Form}
 use Rattle.vectors.specs.declared.text.Form.the-variants.{Escaped, Decimal}
 use Rattle.vectors.specs.declared.traces.Bench.{Bench}
@@ -29,13 +27,6 @@ judged false state = record { verdict = Differs; bench = ready state }
 -- a line that is no vector
 abbrev pub prepared : Bench → Ran
 prepared b = record { verdict = Other; bench = b }
-
--- the paper's number of an answer
-abbrev pub numberOf : Answer → ℕ
-numberOf All = 0
-numberOf NoRoom = 1
-numberOf NoCode = 2
-numberOf Unsound = 3
 
 -- what a stream takes, and its call's second buffer: host bytes, or codes
 abbrev pub formTaken : Stream → Form

@@ -90,11 +90,15 @@ fn print_shown(form: Form, s: &[u8]) {
 // A call's answer and the count it took are those of a text, or all that was left where the text is empty.
 fn is_ended(c: Called, left: usize, text: &[u8]) -> bool {
     let answer = c.answer;
-    let number = traces::number_of(answer);
+    let number = linebox::number_of(answer);
     if text.len() == 0 {
         return number == 0 && c.taken == left;
     }
-    is_shown(Form::Decimal, &[number, (c.taken % 256) as u8], text)
+    is_shown(
+        Form::Decimal,
+        &[(number % 256) as u8, (c.taken % 256) as u8],
+        text,
+    )
 }
 
 // A call of a stream that lends the rooms asked for.

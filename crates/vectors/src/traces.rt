@@ -1,11 +1,10 @@
 // What the traced lines and commands go on from: a box, and what its next call lends and starts from.
 ghost use mathlib.Core.Path.{_≡_};
-ghost use Rattle.vectors.specs.Traces.{ready, judged, prepared, numberOf, formTaken, formFirst, lending, withLimit, withSettings, limited};
+ghost use Rattle.vectors.specs.Traces.{ready, judged, prepared, formTaken, formFirst, lending, withLimit, withSettings, limited};
 use crate::text::Form;
 use crate::text::after_bar;
 use crate::text::before_bar;
 use crate::text::decode;
-use linebox::Answer;
 use settings::Settings;
 use step::State;
 
@@ -72,18 +71,6 @@ pub fn prepared(b: Bench) -> Ran
     Ran {
         verdict: Verdict::Other,
         bench: b,
-    }
-}
-
-// The paper's number of an answer.
-pub fn number_of(a: Answer) -> u8
-    ensures { λ r. ⌜ r ≡ numberOf a ⌝ }
-{
-    match a {
-        Answer::All => 0,
-        Answer::NoRoom => 1,
-        Answer::NoCode => 2,
-        Answer::Unsound => 3,
     }
 }
 
