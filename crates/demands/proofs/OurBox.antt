@@ -16,7 +16,7 @@ use Rattle.linebox.proofs.Ending.{ends, folds, only, one, within, call-fits}
 use Rattle.demands.specs.Names.{State, Stream, Tu, Called}
 use Rattle.demands.specs.Box.{Result, Box, resulting, ours}
 use Rattle.demands.specs.ExactCodes.{ExactCodes}
-use Rattle.demands.specs.EveryCall.{noCode, hasRoom, Goes, Exactly, Next, Answers, Splits, Ended, EveryCall}
+use Rattle.demands.specs.EveryCall.{noCode, hasRoom, Goes, Exactly, Stands, Splits, Ended, EveryCall}
 
 module _ (t : Stream) (s : State) (a b : ℕ) where
   -- A byte and those before it.
@@ -33,23 +33,13 @@ module _ (t : Stream) (s : State) (a b : ℕ) where
       let q : getD xs i 0 ≡ x = rw e (getD-at before x more 0 i l) in
       record { accepts = rw (p, q) (h .code); fits = rw (p, q) (h .room) }
 
-  -- An answer's condition, by its number.
-
-  module _ (taken rest : List ℕ) where
-    abbrev Stands : ℕ → Type 0
-    Stands zero = (sound s ≡ true) × (rest ≡ [])
-    Stands (suc zero) = (sound s ≡ true) × Next (λ x. (noCode t s taken x ≡ false) × (hasRoom t s a b taken x ≡ false)) rest
-    Stands (suc (suc zero)) = (sound s ≡ true) × Next (λ x. noCode t s taken x ≡ true) rest
-    Stands (suc (suc (suc zero))) = sound s ≡ false
-    Stands (suc (suc (suc (suc w)))) = ⊥
-
   -- at most one stands: the state and the next byte tell which
   abbrev number : List ℕ → Bool → List ℕ → ℕ
   number taken false rest = 3
   number taken true [] = 0
   number taken true (x ∷ rest) = cond (noCode t s taken x) 2 (cond (hasRoom t s a b taken x) 4 1)
 
-  told : (taken rest : List ℕ) (w : ℕ) → Stands taken rest w → number taken (sound s) rest ≡ w
+  told : (taken rest : List ℕ) (w : ℕ) → Stands t s a b taken rest w → number taken (sound s) rest ≡ w
   told taken rest zero h = rw (h .0, h .1)
   told taken [] (suc zero) h = absurd (h .1)
   told taken (x ∷ rest) (suc zero) h = rw (h .0, h .1 .0, h .1 .1)
@@ -58,29 +48,13 @@ module _ (t : Stream) (s : State) (a b : ℕ) where
   told taken rest (suc (suc (suc zero))) h = rw h
   told taken rest (suc (suc (suc (suc w)))) h = absurd h
 
-  four : (taken rest : List ℕ) (w : ℕ) → Stands taken rest w → w < 4
-  four taken rest zero h = omega arith
-  four taken rest (suc zero) h = omega arith
-  four taken rest (suc (suc zero)) h = omega arith
-  four taken rest (suc (suc (suc zero))) h = omega arith
-  four taken rest (suc (suc (suc (suc w)))) h = absurd h
-
-  exact : (taken rest : List ℕ) (w v : ℕ) → Stands taken rest w → Exactly (w ≡ v) (Stands taken rest v)
-  exact taken rest w v h = record { only = λ e. subst (Stands taken rest) e h; then = λ k. sym (told taken rest w h) ∙ told taken rest v k }
-
-  answers : (taken rest : List ℕ) (w : ℕ) → Stands taken rest w → Answers t s a b w taken rest
-  answers taken rest w h = record { four = four taken rest w h; zero = exact taken rest w 0 h; one = exact taken rest w 1 h; two = exact taken rest w 2 h; three = exact taken rest w 3 h }
-
-  stands : (taken rest : List ℕ) (w : ℕ) → Answers t s a b w taken rest → Stands taken rest w
-  stands taken rest zero h = h .zero .only refl
-  stands taken rest (suc zero) h = h .one .only refl
-  stands taken rest (suc (suc zero)) h = h .two .only refl
-  stands taken rest (suc (suc (suc zero))) h = h .three .only refl
-  stands taken rest (suc (suc (suc (suc w)))) h = absurd (omega (arith, h .four))
+  -- the one that stands is the answer
+  exact : (taken rest : List ℕ) (w : ℕ) → Stands t s a b taken rest w → (n : ℕ) → Exactly (w ≡ n) (Stands t s a b taken rest n)
+  exact taken rest w h n = record { only = λ e. subst (Stands t s a b taken rest) e h; then = λ k. sym (told taken rest w h) ∙ told taken rest n k }
 
   -- A count gives a split.
 
-  counted : (xs : List ℕ) (n w : ℕ) → sound s ≡ fromSound w → When t s xs a b n w → Stands (take n xs) (drop n xs) w
+  counted : (xs : List ℕ) (n w : ℕ) → sound s ≡ fromSound w → When t s xs a b n w → Stands t s a b (take n xs) (drop n xs) w
   counted xs n zero e h = (e, drop-of-length-le xs (le-of-eq (sym h)))
   counted xs n (suc zero) e h = rw (drop-cons xs n 0 (h .0)) (e, h .1)
   counted xs n (suc (suc zero)) e h = rw (drop-cons xs n 0 (h .0)) (e, h .1)
@@ -104,12 +78,12 @@ module _ (t : Stream) (s : State) (a b : ℕ) where
         let f : xs ≡ before ++ (x ∷ (others ++ drop n xs)) = sym (take-append-drop n xs) ∙ ap (λ (r : List ℕ). r ++ drop n xs) e ∙ append-assoc before (x ∷ others) (drop n xs) in
         goes xs before x (others ++ drop n xs) (length before) f refl (h .before (length before) i);
     nothing = unsound xs n w (h .state) (h .next);
-    answer = answers (take n xs) (drop n xs) w (counted xs n w (h .state) (h .next));
+    answer = exact (take n xs) (drop n xs) w (counted xs n w (h .state) (h .next));
   }
 
   -- A split gives a count.
 
-  when : (taken rest : List ℕ) (w : ℕ) → (sound s ≡ false → taken ≡ []) → Stands taken rest w → When t s (taken ++ rest) a b (length taken) w
+  when : (taken rest : List ℕ) (w : ℕ) → (sound s ≡ false → taken ≡ []) → Stands t s a b taken rest w → When t s (taken ++ rest) a b (length taken) w
   when taken rest zero none h = rw (h .1) (rw append-nil refl)
   when taken [] (suc zero) none h = absurd (h .1)
   when taken (x ∷ rest) (suc zero) none h =
@@ -124,7 +98,7 @@ module _ (t : Stream) (s : State) (a b : ℕ) where
   when taken rest (suc (suc (suc zero))) none h = ap length (none h)
   when taken rest (suc (suc (suc (suc w)))) none h = absurd h
 
-  handed : (taken rest : List ℕ) (w : ℕ) → Stands taken rest w → sound s ≡ fromSound w
+  handed : (taken rest : List ℕ) (w : ℕ) → Stands t s a b taken rest w → sound s ≡ fromSound w
   handed taken rest zero h = h .0
   handed taken rest (suc zero) h = h .0
   handed taken rest (suc (suc zero)) h = h .0
@@ -133,13 +107,13 @@ module _ (t : Stream) (s : State) (a b : ℕ) where
 
   counts : (xs : List ℕ) (w : ℕ) (taken rest : List ℕ) → Splits t s xs a b w taken rest → Ends t s xs a b w (length taken)
   counts xs w taken rest h = record {
-    state = handed taken rest w (stands taken rest w (h .answer));
+    state = handed taken rest w (h .answer w .only refl);
     before = λ i l.
         let e : taken ≡ take i taken ++ (getD taken i 0 ∷ drop (suc i) taken) = split-at taken i 0 l in
         let f : xs ≡ take i taken ++ (getD taken i 0 ∷ (drop (suc i) taken ++ rest)) = h .whole ∙ ap (λ (r : List ℕ). r ++ rest) e ∙ append-assoc (take i taken) (getD taken i 0 ∷ drop (suc i) taken) rest in
         let m : i ≤ length taken = omega (arith, l) in
         takes xs (take i taken) (getD taken i 0) (drop (suc i) taken ++ rest) i f (length-take-le i taken m) (h .each (take i taken) (getD taken i 0) (drop (suc i) taken) e);
-    next = rw (h .whole) (when taken rest w (h .nothing) (stands taken rest w (h .answer)));
+    next = rw (h .whole) (when taken rest w (h .nothing) (h .answer w .only refl));
   }
 
 -- What the call's definition gives follows the bytes it took.
@@ -174,7 +148,7 @@ promised t s xs one two now₁ now₂ r p = rw (p .gives, p .one, p .two)
 
 -- A TU call is lent one buffer.
 
-none : (xs : List ℕ) → length xs ≤ 0 → xs ≡ []
+pub none : (xs : List ℕ) → length xs ≤ 0 → xs ≡ []
 none [] h = refl
 none (x ∷ xs) h = absurd (omega (arith, h))
 

@@ -1,5 +1,5 @@
 -- Demand 1: how a call ends, said of the bytes taken and the rest, over what one byte does and over lengths.
-use Prim.Native.Nat.{ℕ, _-_, _<_}
+use Prim.Native.Nat.{ℕ, zero, suc, _-_}
 use mathlib.Core.Path.{_≡_}
 use mathlib.Core.Bool.{Bool, true, false}
 use mathlib.Core.List.{List, [], _∷_, _++_}
@@ -37,17 +37,18 @@ abbrev pub Next : (ℕ → Type 0) → List ℕ → Type 0
 Next P [] = ⊥
 Next P (x ∷ rest) = P x
 
--- one of four numbered answers, each exactly when its condition holds
-pub record Answers (t : Stream) (s : State) (a b w : ℕ) (taken rest : List ℕ) : Type 0 where
-  pub four : w < 4
-  -- all bytes are taken
-  pub zero : Exactly (w ≡ 0) ((sound s ≡ true) × (rest ≡ []))
-  -- the next byte's whole output does not fit one of the buffers
-  pub one : Exactly (w ≡ 1) ((sound s ≡ true) × Next (λ x. (noCode t s taken x ≡ false) × (hasRoom t s a b taken x ≡ false)) rest)
-  -- the next byte of a code stream is over 31; room is not looked at
-  pub two : Exactly (w ≡ 2) ((sound s ≡ true) × Next (λ x. noCode t s taken x ≡ true) rest)
-  -- the state handed in is not sound
-  pub three : Exactly (w ≡ 3) (sound s ≡ false)
+-- when the answer with a number stands, of the bytes taken and the rest
+abbrev pub Stands : Stream → State → ℕ → ℕ → List ℕ → List ℕ → ℕ → Type 0
+-- 0: all bytes are taken
+Stands t s a b taken rest zero = (sound s ≡ true) × (rest ≡ [])
+-- 1: the next byte's whole output does not fit one of the buffers
+Stands t s a b taken rest (suc zero) = (sound s ≡ true) × Next (λ x. (noCode t s taken x ≡ false) × (hasRoom t s a b taken x ≡ false)) rest
+-- 2: the next byte of a code stream is over 31; room is not looked at
+Stands t s a b taken rest (suc (suc zero)) = (sound s ≡ true) × Next (λ x. noCode t s taken x ≡ true) rest
+-- 3: the state handed in is not sound
+Stands t s a b taken rest (suc (suc (suc zero))) = sound s ≡ false
+-- there is no other
+Stands t s a b taken rest (suc (suc (suc (suc n)))) = ⊥
 
 -- the input is split into bytes taken and the rest, and the answer is the one for that split
 pub record Splits (t : Stream) (s : State) (xs : List ℕ) (a b w : ℕ) (taken rest : List ℕ) : Type 0 where
@@ -56,7 +57,8 @@ pub record Splits (t : Stream) (s : State) (xs : List ℕ) (a b w : ℕ) (taken 
   pub each : (before : List ℕ) (x : ℕ) (others : List ℕ) → taken ≡ before ++ (x ∷ others) → Goes t s a b before x
   -- from a state that is not sound nothing is taken
   pub nothing : sound s ≡ false → taken ≡ []
-  pub answer : Answers t s a b w taken rest
+  -- each number is the answer exactly when it stands
+  pub answer : (n : ℕ) → Exactly (w ≡ n) (Stands t s a b taken rest n)
 
 -- what a call gives: everything follows the bytes taken
 pub record Ended (t : Stream) (s : State) (xs one two : List ℕ) (r : Result) : Type 0 where

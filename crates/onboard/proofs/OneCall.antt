@@ -1,0 +1,140 @@
+-- Demand 1 of the calls for C: the call that the bytes ask for is our box's on the state that they spell, and the spelling of the state
+-- after it reads back as that state.
+-- Assumes nothing.
+use Prim.Native.Nat.{ℕ}
+use mathlib.Core.Path.{_≡_, refl, sym, ap, _∙_, subst}
+use mathlib.Core.Bool.{Bool, true, false, cond}
+use mathlib.Core.List.{List, []}
+use lib.ListN.{length, getD}
+use Rattle.laws.proofs.Both.{both}
+use Rattle.laws.specs.Written.{fronted}
+use Rattle.step.specs.State.{formed, sound}
+use Rattle.step.proofs.Stays.{sound-run}
+use Rattle.linebox.specs.Call.{Done, call, stopped}
+use Rattle.linebox.specs.Ends.{events}
+use Rattle.spelling.specs.declared.Loaded.{Loaded}
+use Rattle.spelling.specs.Spelling.{spells, spelt, stateOf}
+use Rattle.spelling.proofs.ReadBack.{read-back}
+use Rattle.board.specs.Calls.{spellsSound, after, asked, Boards, BoardsOne}
+use Rattle.board.proofs.Asked.{three}
+use Rattle.demands.specs.Box.{Result, resulting, ours}
+use Rattle.demands.specs.EveryCall.{Ended}
+use Rattle.demands.proofs.OurBox.{ours-every-call, none}
+use Rattle.linebox.proofs.Ending.{call-fits}
+use Rattle.onboard.specs.Names.{State, Stream, Host, Line, Tu}
+use Rattle.onboard.specs.OneCall.{Wire, PromisedBy, Promised, seen, OneCall}
+
+-- The spelling of a sound state is the spelling of just that state.
+
+spelt-back : (s : State) → sound s ≡ true → (spells (spelt s) ≡ true) × (stateOf (spelt s) ≡ s)
+spelt-back s h =
+    let e = read-back s (both (formed s) _ h .0) in
+    (ap (λ (x : Loaded). x .spelt) e, ap (λ (x : Loaded). x .state) e)
+
+-- What the promises of the three calls have in common: all follows what the bytes ask for.
+record Follows (c : Wire) (d : Done) : Type 0 where
+  answer : c .answer ≡ d .answer
+  bytes : c .after ≡ after (c .state) d
+  taken : getD (c .done) 0 0 ≡ d .taken
+  count-first : getD (c .done) 1 0 ≡ length (d .first)
+  count-second : getD (c .done) 2 0 ≡ length (d .second)
+  one : c .first ≡ fronted (c .one) (d .first)
+  two : c .second ≡ fronted (c .two) (d .second)
+
+boards-follow : (c : Wire) (d : Done) → Boards (c .state) d (c .one) (c .two) (c .after) (c .first) (c .second) (c .done) (c .answer) → Follows c d
+boards-follow c d p = record {
+  answer = p .answer;
+  bytes = p .bytes;
+  taken = ap (λ (xs : List ℕ). getD xs 0 0) (p .told);
+  count-first = ap (λ (xs : List ℕ). getD xs 1 0) (p .told);
+  count-second = ap (λ (xs : List ℕ). getD xs 2 0) (p .told);
+  one = p .one;
+  two = p .two;
+}
+
+-- a TU call writes nothing to a second buffer
+tu-second : (b xs : List ℕ) (n : ℕ) → asked Tu b xs n 0 .second ≡ []
+tu-second b xs n = go (spells b)
+  where
+    go : (x : Bool) → cond x (call Tu (stateOf b) xs n 0) (stopped 3 (stateOf b)) .second ≡ []
+    go true = none (call Tu (stateOf b) xs n 0 .second) (call-fits Tu (stateOf b) xs n 0 .1)
+    go false = refl
+
+tu-follows : (c : Wire) (d : Done) → d .second ≡ [] → BoardsOne (c .state) d (c .one) (c .after) (c .first) (c .done) (c .answer) → c .two ≡ [] → c .second ≡ [] → Follows c d
+tu-follows c d e p u v = record {
+  answer = p .answer;
+  bytes = p .bytes;
+  taken = ap (λ (xs : List ℕ). getD xs 0 0) (p .told);
+  count-first = ap (λ (xs : List ℕ). getD xs 1 0) (p .told);
+  count-second = ap (λ (xs : List ℕ). getD xs 2 0) (p .told) ∙ sym (ap length e);
+  one = p .one;
+  two = rw (e, u, v);
+}
+
+follows-by : (t : Stream) (c : Wire) → PromisedBy t c → Follows c (asked t (c .state) (c .bytes) (length (c .one)) (length (c .two)))
+follows-by Host c p = boards-follow c _ p
+follows-by Line c p = boards-follow c _ p
+follows-by Tu c p =
+    let d : ℕ → Done = asked Tu (c .state) (c .bytes) (length (c .one)) in
+    subst (λ (n : ℕ). Follows c (d n)) (sym (ap length (p .1 .0))) (tu-follows c (d 0) (tu-second (c .state) (c .bytes) (length (c .one))) (p .0) (p .1 .0) (p .1 .1))
+
+-- What follows an outcome is that outcome as a box's result, where the bytes after it spell its state.
+seen-follows : (c : Wire) (d : Done) → Follows c d → stateOf (c .after) ≡ d .state → seen c ≡ resulting d (c .one) (c .two)
+seen-follows c d f e = rw (f .answer, f .taken, f .count-first, f .count-second, f .one, f .two, e)
+
+module _ (c : Wire) (p : Promised c) where
+  abbrev t : Stream
+  t = c .stream
+
+  abbrev s : State
+  s = stateOf (c .state)
+
+  abbrev a : ℕ
+  a = length (c .one)
+
+  abbrev b : ℕ
+  b = length (c .two)
+
+  -- bytes that spell a sound state ask for our box's own call
+  module _ (h : spellsSound (c .state) ≡ true) where
+    abbrev d : Done
+    d = call t s (c .bytes) a b
+
+    asks-call : asked t (c .state) (c .bytes) a b ≡ d
+    asks-call = rw (both (spells (c .state)) (sound s) h .0)
+
+    follows : Follows c d
+    follows = rw asks-call at (follows-by t c p)
+
+    ours-ended : Ended t s (c .bytes) (c .one) (c .two) (ours t s (c .bytes) (c .one) (c .two))
+    ours-ended = ours-every-call t s (c .bytes) (c .one) (c .two)
+
+    stays-sound : sound (d .state) ≡ true
+    stays-sound = rw (ours-ended .state) (sound-run s (events t (ours-ended .taken)) (both (spells (c .state)) (sound s) h .1))
+
+    after-spelt : c .after ≡ spelt (d .state)
+    after-spelt = follows .bytes ∙ rw h
+
+    seen-ours : seen c ≡ ours t s (c .bytes) (c .one) (c .two)
+    seen-ours = seen-follows c d follows (ap stateOf after-spelt ∙ spelt-back (d .state) stays-sound .1)
+
+    sound-after : spellsSound (c .after) ≡ true
+    sound-after =
+        let e = spelt-back (d .state) stays-sound in
+        rw (after-spelt, e .0, e .1) stays-sound
+
+  -- any others are answered 3
+  module _ (h : spellsSound (c .state) ≡ false) where
+    refused-follows : Follows c (stopped 3 s)
+    refused-follows = rw (three t (c .state) (c .bytes) a b h) at (follows-by t c p)
+
+    after-kept : c .after ≡ c .state
+    after-kept = refused-follows .bytes ∙ rw h
+
+  pub one-call : OneCall c
+  one-call = record {
+    ended = λ h. rw (seen-ours h) (ours-ended h);
+    spelt = sound-after;
+    refused = λ h. seen-follows c (stopped 3 s) (refused-follows h) (ap stateOf (after-kept h));
+    kept = after-kept;
+  }
