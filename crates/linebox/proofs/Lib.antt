@@ -6,3 +6,4 @@ pub mod Most
 pub mod Reached
 pub mod Ending
 pub mod Cutting
+pub mod Told
