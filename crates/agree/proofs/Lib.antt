@@ -6,4 +6,3 @@ pub mod Home
 pub mod Told
 pub mod Margin
 pub mod Length
-pub mod Traces

@@ -18,12 +18,11 @@ use Rattle.sender.specs.Item.{character, item, afterItem, items}
 use Rattle.agree.specs.Names.{Case, Kind, Still, Space, Return, Shift, Char, Settings, Printer, Mark, Column, At, Record, Wanted, Sender}
 use Rattle.agree.specs.Names.column
 use Rattle.agree.specs.Agrees.{ColumnAgrees, Agrees, Obeys}
-use Rattle.agree.specs.Asked.{mark}
 use Rattle.agree.specs.Margin.{LandsBelow, Below}
 use Rattle.agree.specs.Sure.{ColumnSure}
 use Rattle.agree.proofs.Agreement.{agreement}
 use Rattle.agree.proofs.Folds.{sheet-append, obeys-append, item-cases}
-use Rattle.agree.proofs.Prints.{character-prints}
+use Rattle.agree.proofs.Prints.{code-prints}
 use Rattle.agree.proofs.Weights.{weightAt, weight, count-by, places}
 use Rattle.agree.proofs.Home.{HomeAt, Home, home-column, Sound, sound}
 use Rattle.agree.proofs.Told.{ending-keeps, column-told}
@@ -120,9 +119,10 @@ module _ (o : Settings) (t : Sound o) where
     character-below p sure obeys a =
         let e = endingBefore o r w in
         let q = hears p e in
-        let b = agreement o r p e (obeys-append o p e (sendAs o (notes o r e .case) (w .case) (w .code)) obeys .0) a in
-        rw (character-prints o r p w obeys a)
-        (below-append (o .limit) (sheet p e) (printsAs (kindOf (w .code)) (mark q w)) (ending-below p)
+        let cs = sendAs o (notes o r e .case) (w .case) (w .code) in
+        let b = agreement o r p e (obeys-append o p e cs obeys .0) a in
+        rw (sheet-append p e cs, code-prints o (notes o r e) q (w .case) (w .code) b)
+        (below-append (o .limit) (sheet p e) (printsAs (kindOf (w .code)) (markAs (kindOf (w .code)) (w .case) (q .count) (w .code))) (ending-below p)
         (mark-below (o .limit) (kindOf (w .code)) (w .case) (q .count) (w .code)
         (λ h. count-below (o .limit) (notes o r e .column) (q .count) (t .most) (ending-keeps o r w sure) (b .column) (below-limit h))))
 

@@ -2,5 +2,3 @@ pub mod Names
 pub mod Agrees
 pub mod Margin
 pub mod Sure
-pub mod Asked
-pub mod Traces

@@ -7,7 +7,8 @@ use Rattle.command.specs.Read.{read}
 use Rattle.step.specs.State.{withReader, withSender}
 use Rattle.step.specs.Step.{hosted, lined, tued, step, Event}
 use Rattle.demands.specs.Names.{Reader, Out, Nothing, One, Two, Finished, Connection, Mode1, Mode4, Mode10, Mode11, Sender, State, Stream, Host, Line, Tu}
-use Rattle.demands.specs.Asks.{asksBy, asksAll}
+use Rattle.demands.specs.Asks.{asksBy}
+use Rattle.demands.specs.Whole.{asksAll}
 
 module _ (s : State) (x : Sender) where
   hosted-apart : (r : Reader) (out : Out) → let y = hosted (withReader (withSender s x) r) (s .reader .values) out .state in y ≡ withSender (hosted (withReader s r) (s .reader .values) out .state) (y .sender)

@@ -1,7 +1,7 @@
 -- The example meets every premise: obedience is tested code by code, and the test computes.
 -- Assumes nothing.
 use Prim.Native.Nat.{ℕ}
-use mathlib.Core.Path.{_≡_, refl}
+use mathlib.Core.Path.{_≡_, refl, ap, _∙_}
 use mathlib.Core.Bool.{Bool, true, false, cond, _&&_, false≢true}
 use mathlib.Core.List.{List, [], _∷_}
 use Rattle.laws.proofs.Both.{both}
@@ -18,10 +18,13 @@ use Rattle.step.specs.Step.{step}
 use Rattle.demands.specs.Names.{Kind, Still, Space, Return, Shift, Char, Settings, Printer, State}
 use Rattle.demands.specs.Box.{ours}
 use Rattle.demands.specs.Lent.{tookAll, sentAll}
-use Rattle.demands.specs.Story.{connects, Turn, turns, Scene, start, does, turned, Obedient}
-use Rattle.demands.specs.Printing.{Printed}
-use Rattle.demands.specs.Example.{calls, bytes, first, joining, codes}
+use Rattle.demands.specs.Connects.{connects}
+use Rattle.demands.specs.Story.{Turn, turns, Scene, start, does, turned, Obedient}
+use Rattle.demands.specs.Printing.{Holds}
+use Rattle.demands.specs.Whole.{ownOf, asksAll}
+use Rattle.demands.specs.Example.{calls, bytes, first, joining, codes, asked}
 use Rattle.demands.proofs.Printing.{ours-prints}
+use Rattle.demands.proofs.Whole.{own-prints}
 
 -- Obedience as a test.
 
@@ -88,5 +91,13 @@ pub example-obedient : Obedient (start first) (turns joining 0 (tookAll ours fre
 example-obedient = rw example-bytes (obedient (start first) (turns joining 0 bytes) example-test)
 
 -- so demand 3 holds of it
-pub example : Printed ours calls first (turns joining 0 (tookAll ours freshBox calls))
-example = ours-prints calls first joining example-obedient
+pub example : Holds (start first) (turns joining 0 (tookAll ours freshBox calls))
+example = ours-prints calls .holds first joining example-obedient
+
+-- and what is printed beside its two endings is what it asks for
+pub example-asked : asksAll freshBox bytes ≡ asked
+unfolding conversion kindOf rowAt digits soundString idOf commanded
+example-asked = refl
+
+pub example-own : ownOf (start first) (turns joining 0 (tookAll ours freshBox calls)) example ≡ asked
+example-own = own-prints joining (start first) 0 (tookAll ours freshBox calls) example ∙ ap (asksAll freshBox) example-bytes ∙ example-asked

@@ -4,18 +4,18 @@ use Prim.Native.Nat.{ℕ}
 use mathlib.Core.Path.{_≡_, refl, sym, ap, _∙_}
 use mathlib.Core.List.{List, [], _∷_, _++_}
 use lib.ListN.{length, take, drop}
-use lib.Seq.{take-at, drop-at}
+use lib.Seq.{take-at}
 use Rattle.laws.specs.Written.{fronted}
-use Rattle.step.specs.Step.{step, Event, run}
+use Rattle.step.specs.Step.{Event, run}
 use Rattle.linebox.specs.Ends.{events, firstsOf}
 use Rattle.demands.specs.Names.{State, Stream, Host, Line, Tu}
 use Rattle.demands.specs.Box.{Result, Box, ours}
 use Rattle.demands.specs.EveryCall.{EveryCall, Ended}
-use Rattle.demands.specs.Lent.{lines, Lent, result, took, sentBy, sent, tookAll, sentAll}
-use Rattle.demands.specs.ReadingBack.{readBack, ReadingBack}
-use Rattle.demands.proofs.Sessions.{lines-append, line-none}
+use Rattle.demands.specs.Lent.{lines, Lent, result, took, sentBy, sent, tookAll, sentAll, left}
+use Rattle.demands.specs.ReadingBack.{ReadingBack}
+use Rattle.demands.proofs.Sessions.{run-append, lines-append, line-none}
 use Rattle.demands.proofs.OurBox.{front, ours-every-call}
-use Rattle.demands.proofs.ReadingBack.{fresh-by, reads-back}
+use Rattle.demands.proofs.ReadingBack.{lines-read-back}
 
 -- what is at a buffer's front
 fronts : (old new now : List ℕ) (n : ℕ) → n ≡ length new → now ≡ fronted old new → take n now ≡ new
@@ -27,7 +27,7 @@ sends-by Line s xs one two r h = sym (line-none s (h .taken))
 sends-by Tu s xs one two r h = fronts one (firstsOf Tu s (h .taken)) (r .first) (r .gives .first) (h .wrote .count-first) (h .wrote .first)
 
 module _ (box : Box) (meets : EveryCall box) where
-  pub took-taken : (s : State) (g : Lent) → let h = meets (g .stream) s (g .bytes) (g .one) (g .two) in took box s g ≡ events (g .stream) (h .taken)
+  took-taken : (s : State) (g : Lent) → let h = meets (g .stream) s (g .bytes) (g .one) (g .two) in took box s g ≡ events (g .stream) (h .taken)
   took-taken s g =
       let h = meets (g .stream) s (g .bytes) (g .one) (g .two) in
       ap (events (g .stream)) (front (g .bytes) (h .taken) (h .rest) (result box s g .gives .taken) (h .splits .whole) (h .count))
@@ -46,19 +46,20 @@ module _ (box : Box) (meets : EveryCall box) where
       ∙ sym (lines-append s es rest)
       ∙ ap (λ (u : List Event). lines s (u ++ rest)) (sym (took-taken s g))
 
-  -- The same of its calls, however the bytes were cut and whatever the buffers' sizes.
+  -- and the state that the last call left is that of the bytes taken
+  pub left-run : (s : State) (gs : List Lent) → left box s gs ≡ run s (tookAll box s gs)
+  left-run s [] = refl
+  left-run s (g ∷ gs) =
+      let h = meets (g .stream) s (g .bytes) (g .one) (g .two) in
+      let rest = tookAll box (result box s g .gives .state) gs in
+      left-run (result box s g .gives .state) gs
+      ∙ ap (λ (q : State). run q rest) (h .state)
+      ∙ sym (run-append s (events (g .stream) (h .taken)) rest)
+      ∙ ap (λ (es : List Event). run s (es ++ rest)) (sym (took-taken s g))
+
+  -- So what it sends reads back, however the bytes were cut and whatever the buffers' sizes.
   pub box-reads-back : ReadingBack box
-  box-reads-back start gs before e after split j h =
-      let s = run start before in
-      let x = step (e .stream) s (e .byte) in
-      let all : sentAll box start gs ≡ lines start before ++ lines (x .state) after =
-      all-sent start gs
-      ∙ ap (lines start) split
-      ∙ lines-append start before (e ∷ after)
-      ∙ ap (λ (u : List ℕ). lines start before ++ (u ++ lines (x .state) after)) (fresh-by (e .stream) s (e .byte) (j .connects) .1) in
-      ap (λ (u : List ℕ). readBack (x .state) (drop (length (lines start before)) u)) all
-      ∙ ap (readBack (x .state)) (drop-at (lines start before) (lines (x .state) after) (length (lines start before)) refl)
-      ∙ reads-back s e j after h
+  box-reads-back start gs = rw (all-sent start gs) (lines-read-back start (tookAll box start gs))
 
 pub ours-reads-back : ReadingBack ours
 ours-reads-back = box-reads-back ours ours-every-call

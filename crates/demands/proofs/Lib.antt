@@ -3,11 +3,13 @@ pub mod ItemCodes
 pub mod Sessions
 pub mod Sending
 pub mod Reading
+pub mod Stretches
 pub mod ReadingBack
 pub mod Lent
 pub mod OnRecord
 pub mod Landing
 pub mod Printing
+pub mod Whole
 pub mod Apart
 pub mod WrongBoxes
 pub mod Forgetful

@@ -9,7 +9,7 @@ use Rattle.agree.proofs.Told.{holds-append, column-told, case-told}
 use Rattle.step.specs.Step.{step, Event, run}
 use Rattle.demands.specs.Names.{Kind, Settings, Record, Sender, Wanted, State}
 use Rattle.demands.specs.Lent.{lines}
-use Rattle.demands.specs.Story.{itemsOf}
+use Rattle.demands.specs.Items.{itemsOf}
 use Rattle.demands.specs.OnRecord.{Unconnected, OnRecord}
 use Rattle.demands.proofs.Sending.{line-items, sender-items}
 

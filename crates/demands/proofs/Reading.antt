@@ -1,8 +1,8 @@
--- The items of a byte read as what is asked for, and with 49 off that is what they print.
+-- The items of a byte read as what is asked for.
 -- Assumes nothing.
 use Prim.Native.Nat.{ℕ, suc, _≤_}
-use mathlib.Core.Path.{_≡_, refl, ap, _∙_}
-use mathlib.Core.Bool.{Bool, true, false, cond, _&&_, and-false}
+use mathlib.Core.Path.{_≡_, refl, _∙_}
+use mathlib.Core.Bool.{Bool, true, false, _&&_, and-false}
 use mathlib.Core.List.{List, [], _∷_, _++_, append-assoc, append-nil}
 use native.Mathlib.Omega.{arith}
 use borrow.Author.Tests.{ltb-true, ltb-false, lt-leb, eqb-true, ne-eqb}
@@ -14,16 +14,16 @@ use Rattle.code.specs.Rows.{letters, figures, rowAt}
 use Rattle.code.specs.Kinds.{kindOf}
 use Rattle.code.specs.Convert.{capital, seek, conversion}
 use Rattle.command.specs.Read.{read, textOf}
-use Rattle.printer.specs.Printer.{hears, printsAs, sheet}
-use Rattle.sender.specs.Ending.{due, endingBefore}
-use Rattle.sender.specs.Item.{item, afterItem, wantedOf}
-use Rattle.agree.specs.Asked.{mark, printed, printedAll}
+use Rattle.sender.specs.Item.{wantedOf}
 use Rattle.step.specs.Step.{asked, text, Event}
-use Rattle.demands.specs.Names.{Case, Letters, Figures, Kind, Still, Space, Return, Shift, Char, Conversion, Settings, Connection, Mode1, Mode4, Mode10, Mode11, Column, Record, Wanted, Sender, Printer, Mark, State, Stream, Host, Line, Tu}
-use Rattle.demands.specs.Names.column
-use Rattle.demands.specs.Asks.{textByte, textBytes, hostAsks, isShift, codeIn, tuAsks, asksBy, asks}
-use Rattle.demands.specs.Story.{charactersOf, carriedTo, itemsBy, itemsOf}
-use Rattle.demands.specs.Printing.{reads}
+use Rattle.demands.specs.Names.{Case, Letters, Figures, Conversion, Connection, Mode1, Mode4, Mode10, Mode11, Wanted, State, Stream, Host, Line, Tu}
+use Rattle.demands.specs.Asks.{textByte, textBytes, hostAsks, codeIn, tuAsks, asksBy, asks}
+use Rattle.demands.specs.Items.{carriedTo, itemsBy, itemsOf}
+
+-- what items are to print as
+abbrev pub reads : List Wanted → List ℕ
+reads [] = []
+reads (w ∷ ws) = codeIn (w .case) (w .code) ++ reads ws
 
 -- Nothing from 128 on has a code.
 
@@ -107,37 +107,3 @@ reads-by Tu s b = tu-reads (s .connection) s b
 -- its items read as what it asks for
 pub items-read : (s : State) (e : Event) → reads (itemsOf s e) ≡ asks s e
 items-read s e = reads-by (e .stream) s (e .byte)
-
--- With 49 off.
-
-pub characters-append : (xs ys : List Mark) → charactersOf (xs ++ ys) ≡ charactersOf xs ++ charactersOf ys
-characters-append [] ys = refl
-characters-append (x ∷ xs) ys = rw (characters-append xs ys)
-
-mark-reads : (p : Printer) (w : Wanted) → charactersOf (printsAs (kindOf (w .code)) (mark p w)) ≡ codeIn (w .case) (w .code)
-mark-reads p w = go (kindOf (w .code))
-  where
-    go : (k : Kind) → charactersOf (printsAs k (mark p w)) ≡ cond (isShift k) [] (rowAt (w .case) (w .code) ∷ [])
-    go Still = refl
-    go Space = refl
-    go Return = refl
-    go (Shift to) = refl
-    go (Char bell) = refl
-
-module _ (o : Settings) (off : o .endings ≡ false) where
-  not-due : (col : Column) → due o col ≡ false
-  not-due column.Unknown = refl
-  not-due (column.At n) = rw off
-
-  no-ending : (r : Record) (w : Wanted) → endingBefore o r w ≡ []
-  no-ending r w = rw (not-due (r .column), and-false)
-
-  printed-plain : (r : Record) (p : Printer) (w : Wanted) → charactersOf (printed o r p w) ≡ codeIn (w .case) (w .code)
-  printed-plain r p w = ap (λ (cs : List ℕ). charactersOf (sheet p cs ++ printsAs (kindOf (w .code)) (mark (hears p cs) w))) (no-ending r w) ∙ mark-reads p w
-
-  -- items print as they read
-  pub plain-items : (s : Sender) (p : Printer) (ws : List Wanted) → charactersOf (printedAll o s p ws) ≡ reads ws
-  plain-items s p [] = refl
-  plain-items s p (w ∷ ws) =
-      let rest = printedAll o (afterItem o s w) (hears p (item o s w)) ws in
-      rw (characters-append (printed o (s .held) p w) rest, printed-plain (s .held) p w, plain-items (afterItem o s w) (hears p (item o s w)) ws)

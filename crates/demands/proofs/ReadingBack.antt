@@ -5,7 +5,8 @@ use Prim.Native.Nat.{ℕ, _+_}
 use mathlib.Core.Path.{_≡_, refl, sym, ap, _∙_}
 use mathlib.Core.Bool.{Bool, true, false, cond, false≢true}
 use mathlib.Core.List.{List, [], _∷_, _++_, append-assoc}
-use lib.ListN.{length}
+use lib.ListN.{length, take, drop}
+use lib.Seq.{take-at, drop-at}
 use Rattle.code.specs.Rows.{rowAt}
 use Rattle.code.specs.Kinds.{kindOf, strikes}
 use Rattle.command.specs.Read.{read, textOf}
@@ -15,20 +16,23 @@ use Rattle.sender.specs.Item.{items, afterItems, fresh}
 use Rattle.agree.specs.Agrees.{Agrees, ObeysAt, Obeys}
 use Rattle.agree.proofs.Agreement.{agreement, unknown-agrees}
 use Rattle.agree.proofs.Folds.{sheet-append, items-noted}
-use Rattle.agree.proofs.Prints.{items-print}
 use Rattle.step.specs.State.{withReader, withReading}
-use Rattle.step.specs.Step.{readAs, readCase, hosted, lined, tued, step, Event}
+use Rattle.step.specs.Step.{readAs, readCase, hosted, lined, tued, step, Event, run}
 use Rattle.linebox.specs.Ends.{events, firstsOf, Cut, Fed, feeding}
-use Rattle.step.specs.Laws.{isMode1}
 use Rattle.step.proofs.Rest.{commanded-keeps}
 use Rattle.linebox.proofs.Cutting.{cutting}
 use Rattle.demands.specs.Names.{Case, Letters, Kind, Still, Space, Return, Shift, Char, Settings, Connection, Mode1, Mode4, Mode10, Mode11, Printer, Reader, Out, Nothing, One, Two, Finished, State, Stream, Host, Line, Tu}
-use Rattle.demands.specs.Asks.{textBytes, hostAsks, tuAsks, asksBy, asks, asksAll}
-use Rattle.demands.specs.Story.{connecting, connectsBy, connects, charactersOf, itemsOf}
+use Rattle.demands.specs.Connects.{connecting, connectsBy, connects}
+use Rattle.demands.specs.Items.{itemsOf}
+use Rattle.demands.specs.Asks.{textBytes, hostAsks, tuAsks, asksBy, asks}
 use Rattle.demands.specs.Lent.{lines}
-use Rattle.demands.specs.ReadingBack.{readBack, hostByte, hostBytes, texts, plainText, AllPlain, Joins}
+use Rattle.demands.specs.Printing.{charactersOf, Printed}
+use Rattle.demands.specs.Whole.{asksAll}
+use Rattle.demands.specs.ReadingBack.{readBack, hostByte, hostBytes, texts, plainText, AllPlain, Joins, ReadsBack}
 use Rattle.demands.proofs.Sending.{line-items, sender-items}
-use Rattle.demands.proofs.Reading.{items-read, characters-append, plain-items}
+use Rattle.demands.proofs.Sessions.{lines-append}
+use Rattle.demands.proofs.Reading.{items-read}
+use Rattle.demands.proofs.Stretches.{characters-append, items-printed, plain-printed}
 
 -- A printer that never unshifts by itself.
 
@@ -81,10 +85,7 @@ plain-reads s p (x ∷ es) e f a h =
     let d = step (x .stream) s (x .byte) in
     let obeys : Obeys o p (items o (s .sender) ws) = never o p (items o (s .sender) ws) e f in
     let one : charactersOf (sheet p (d .line)) ≡ asks s x =
-    ap (λ (cs : List ℕ). charactersOf (sheet p cs)) (line-items s x)
-    ∙ ap charactersOf (items-print o (s .sender) p ws obeys a)
-    ∙ plain-items o (h .0 .endings) (s .sender) p ws
-    ∙ items-read s x in
+    plain-printed o (h .0 .endings) p (d .line) (asks s x) (rw (line-items s x, ← items-read s x) (items-printed o (s .sender) p ws obeys a)) in
     let after : d .state .sender ≡ afterItems o (s .sender) ws = sender-items s x ∙ ap (λ (b : Bool). cond b fresh (afterItems o (s .sender) ws)) (h .0 .stays) in
     let heard : Agrees (d .state .sender .held) (hears p (d .line)) = rw (after, items-noted o (s .sender) ws, line-items s x) (agreement o (s .sender .held) p (items o (s .sender) ws) obeys a) in
     ap charactersOf (sheet-append p (d .line) (lines (d .state) es))
@@ -174,7 +175,7 @@ hosted-fresh s r (One b) h = absurd (false≢true h)
 hosted-fresh s r (Two b) h = absurd (false≢true h)
 hosted-fresh s r (Finished v count) h = (rw h refl, refl)
 
-pub fresh-by : (t : Stream) (s : State) (b : ℕ) → connectsBy t s b ≡ true → (step t s b .state .reading ≡ Letters) × (step t s b .line ≡ [])
+fresh-by : (t : Stream) (s : State) (b : ℕ) → connectsBy t s b ≡ true → (step t s b .state .reading ≡ Letters) × (step t s b .line ≡ [])
 fresh-by Host s b h = hosted-fresh s (read (s .reader) b .reader) (read (s .reader) b .out) h
 fresh-by Line s b h = absurd (false≢true h)
 fresh-by Tu s b h = absurd (false≢true h)
@@ -190,18 +191,12 @@ module _ (s : State) (e : Event) (j : Joins s e) where
   -- line and TU codes among the host bytes too. The box's own reading of all codes sent is the convertible text in capitals
   -- without its shift requests.
   pub reads-back : (es : List Event) → AllPlain joined es → readBack joined (lines joined es) ≡ plainText joined es
-  reads-back es h = go (joined .connection) refl (j .mode1) es h
-    where
-      go : (k : Connection) → joined .connection ≡ k → isMode1 k ≡ true → (es : List Event) → AllPlain joined es → readBack joined (lines joined es) ≡ plainText joined es
-      go k c m [] h = refl
-      go (Mode1 port speed) c m (x ∷ es) h =
-          line-reads port speed (lines joined (x ∷ es)) joined 0 c (h .0 .reports)
-          ∙ ap (λ (case : Case). charactersOf (sheet (follower case 0) (lines joined (x ∷ es)))) (fresh-by (e .stream) s (e .byte) (j .connects) .0)
-          ∙ plain-reads joined (follower Letters 0) (x ∷ es) refl refl (joined-agrees (follower Letters 0)) h
-          ∙ asks-text port speed joined (x ∷ es) c h
-      go (Mode4 port speed) c m (x ∷ es) h = absurd (false≢true m)
-      go Mode10 c m (x ∷ es) h = absurd (false≢true m)
-      go Mode11 c m (x ∷ es) h = absurd (false≢true m)
+  reads-back [] h = refl
+  reads-back (x ∷ es) h =
+      line-reads (j .port) (j .speed) (lines joined (x ∷ es)) joined 0 (j .mode1) (h .0 .reports)
+      ∙ ap (λ (case : Case). charactersOf (sheet (follower case 0) (lines joined (x ∷ es)))) (fresh-by (e .stream) s (e .byte) (j .connects) .0)
+      ∙ plain-reads joined (follower Letters 0) (x ∷ es) refl refl (joined-agrees (follower Letters 0)) h
+      ∙ asks-text (j .port) (j .speed) joined (x ∷ es) (j .mode1) h
 
   -- The same of one host stream, cut into calls in any way and with any rooms, each going on at the first byte not taken.
   pub cut-reads-back : (xs : List ℕ) (cs : List Cut) → AllPlain joined (events Host xs) → feeding Host joined xs cs .taken ≡ length xs
@@ -210,3 +205,20 @@ module _ (s : State) (e : Event) (j : Joins s e) where
       ap (λ (f : Fed). readBack joined (f .first)) (cutting Host joined xs cs all)
       ∙ reads-back (events Host xs) h
       ∙ ap (λ (bs : List ℕ). textBytes (texts (made (joined .reader) bs))) (host-bytes xs)
+
+-- What any bytes send, from any state on, reads back.
+pub lines-read-back : (start : State) (es : List Event) → ReadsBack start es (lines start es)
+lines-read-back start es before e after later split j h =
+    let s = run start before in
+    let x = step (e .stream) s (e .byte) in
+    let now = lines (x .state) after in
+    let rest = lines (run (x .state) after) later in
+    let all : lines start es ≡ lines start before ++ (now ++ rest) =
+    ap (lines start) split
+    ∙ lines-append start before (e ∷ (after ++ later))
+    ∙ ap (λ (u : List ℕ). lines start before ++ (u ++ lines (x .state) (after ++ later))) (fresh-by (e .stream) s (e .byte) (j .connects) .1)
+    ∙ ap (λ (u : List ℕ). lines start before ++ u) (lines-append (x .state) after later) in
+    ap (λ (u : List ℕ). readBack (x .state) (take (length now) (drop (length (lines start before)) u))) all
+    ∙ ap (λ (u : List ℕ). readBack (x .state) (take (length now) u)) (drop-at (lines start before) (now ++ rest) (length (lines start before)) refl)
+    ∙ ap (readBack (x .state)) (take-at now rest (length now) refl)
+    ∙ reads-back s e j after h

@@ -1,23 +1,27 @@
--- A history that meets every premise of reading back, by computed tests: a fresh box, `/.TW,1,2,1,60`, CR; then LF, a line code,
--- 70 switched on, a TU code and `a1 2`.
+-- The example of reading back meets every premise, by computed tests, and so reads back.
 -- Assumes nothing.
-use mathlib.Core.Path.{_≡_, refl}
+use Prim.Native.Nat.{ℕ}
+use mathlib.Core.Path.{_≡_, refl, sym, ap, _∙_}
 use mathlib.Core.Bool.{Bool, true, not, _&&_}
 use mathlib.Core.List.{List, [], _∷_, _++_}
+use lib.ListN.{length, take, drop}
 use Rattle.laws.proofs.Both.{both}
 use Rattle.code.specs.Rows.{rowAt}
 use Rattle.code.specs.Kinds.{kindOf}
 use Rattle.code.specs.Convert.{conversion}
+use Rattle.message.specs.Message.{digits}
 use Rattle.settings.specs.Table.{soundString, idOf}
 use Rattle.settings.specs.Command.{commanded}
 use Rattle.step.specs.State.{freshBox}
 use Rattle.step.specs.Step.{step, Event, run}
-use Rattle.linebox.specs.Ends.{events}
 use Rattle.linebox.proofs.Turns.{turned-true}
-use Rattle.demands.specs.Names.{State, Host, Line, Tu}
-use Rattle.demands.specs.Lent.{lines}
-use Rattle.demands.specs.Story.{connects}
-use Rattle.demands.specs.ReadingBack.{plainText, AllPlain, Joins}
+use Rattle.demands.specs.Names.{State}
+use Rattle.demands.specs.Box.{ours}
+use Rattle.demands.specs.Connects.{connects}
+use Rattle.demands.specs.Lent.{lines, tookAll, sentAll}
+use Rattle.demands.specs.ReadingBack.{readBack, plainText, AllPlain, Joins}
+use Rattle.demands.specs.ReadingExample.{calls, before, joining, after, later, connected, codes, lastCodes, text}
+use Rattle.demands.proofs.Lent.{ours-reads-back}
 
 -- The premises as a test.
 
@@ -37,33 +41,36 @@ all-plain s (e ∷ es) h =
     let r = both (not (s .settings .endings)) (not (s .settings .reports)) (q .1) in
     (record { stays = turned-true (connects s e) (q .0); endings = turned-true (s .settings .endings) (r .0); reports = turned-true (s .settings .reports) (r .1) }, all-plain x es (p .1))
 
--- The history.
+-- The calls.
 
-abbrev before : List Event
-before = events Host (47 ∷ 46 ∷ 84 ∷ 87 ∷ 44 ∷ 49 ∷ 44 ∷ 50 ∷ 44 ∷ 49 ∷ 44 ∷ 54 ∷ 48 ∷ [])
+pub example-took : tookAll ours freshBox calls ≡ before ++ (joining ∷ (after ++ later))
+unfolding commanded idOf soundString conversion kindOf rowAt digits
+example-took = refl
 
-abbrev joining : Event
-joining = record { stream = Host; byte = 13 }
-
-abbrev connected : State
-connected = step Host (run freshBox before) 13 .state
-
-abbrev after : List Event
-after = events Host (10 ∷ []) ++ (events Line (27 ∷ []) ++ (events Host (47 ∷ 46 ∷ 84 ∷ 87 ∷ 44 ∷ 55 ∷ 48 ∷ 44 ∷ 49 ∷ 44 ∷ 49 ∷ 13 ∷ []) ++ (events Tu (5 ∷ []) ++ events Host (10 ∷ 97 ∷ 49 ∷ 32 ∷ 50 ∷ []))))
+pub example-sent : sentAll ours freshBox calls ≡ codes ++ lastCodes
+unfolding commanded idOf soundString conversion kindOf rowAt digits
+example-sent = refl
 
 pub example-joins : Joins (run freshBox before) joining
 unfolding commanded idOf soundString
-example-joins = record { connects = refl; mode1 = refl }
+example-joins = record { connects = refl; port = 1; speed = 60; mode1 = refl }
 
 pub example-plain : AllPlain connected after
 unfolding commanded idOf soundString conversion kindOf rowAt
 example-plain = all-plain connected after refl
 
--- and 70 is on at its end, so that LTRS was sent after the space
-pub example-sent : lines connected after ≡ 31 ∷ 3 ∷ 27 ∷ 23 ∷ 4 ∷ 31 ∷ 27 ∷ 19 ∷ []
+-- the codes that `after` sent, and its text
+pub example-stretch : take (length (lines connected after)) (drop (length (lines freshBox before)) (codes ++ lastCodes)) ≡ codes
 unfolding commanded idOf soundString conversion kindOf rowAt
-example-sent = refl
+example-stretch = refl
 
-pub example-text : plainText connected after ≡ 65 ∷ 49 ∷ 32 ∷ 50 ∷ []
+pub example-text : plainText connected after ≡ text
 unfolding commanded idOf soundString conversion kindOf rowAt
 example-text = refl
+
+-- so they read back
+pub example-reads-back : readBack connected codes ≡ text
+example-reads-back =
+    ap (readBack connected) (sym example-stretch ∙ ap (λ (cs : List ℕ). take (length (lines connected after)) (drop (length (lines freshBox before)) cs)) (sym example-sent))
+    ∙ ours-reads-back freshBox calls before joining after later example-took example-joins example-plain
+    ∙ example-text

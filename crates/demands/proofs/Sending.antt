@@ -9,7 +9,8 @@ use Rattle.sender.specs.Item.{items, afterItems, fresh}
 use Rattle.step.specs.State.{withReader}
 use Rattle.step.specs.Step.{text, hosted, lined, tued, step, Event}
 use Rattle.demands.specs.Names.{Reader, Out, Nothing, One, Two, Finished, Connection, Mode1, Mode4, Mode10, Mode11, Sender, State, Stream, Host, Line, Tu}
-use Rattle.demands.specs.Story.{connecting, connectsBy, connects, carriedTo, itemsBy, itemsOf}
+use Rattle.demands.specs.Connects.{connecting, connectsBy, connects}
+use Rattle.demands.specs.Items.{carriedTo, itemsBy, itemsOf}
 use Rattle.demands.proofs.Sessions.{lined-none}
 
 text-none : (k : Connection) → text k [] ≡ []

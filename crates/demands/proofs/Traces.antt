@@ -10,7 +10,7 @@ use Rattle.settings.specs.Table.{soundString, idOf}
 use Rattle.settings.specs.Command.{commanded}
 use Rattle.demands.specs.Traces.{traces, passes}
 
--- all ten starred lines
+-- all ten starred lines, and one more
 pub traces-pass : passes traces ≡ true
 unfolding traces conversion kindOf rowAt digits soundString idOf commanded
 traces-pass = refl

@@ -8,7 +8,7 @@ use Rattle.code.specs.Rows.{rowAt}
 use Rattle.code.specs.Kinds.{kindOf}
 use Rattle.code.specs.Convert.{capital, conversion}
 use Rattle.command.specs.Read.{read, textOf}
-use Rattle.step.specs.Step.{step, Event}
+use Rattle.step.specs.Step.{Event}
 use Rattle.demands.specs.Names.{Case, Kind, Still, Space, Return, Shift, Char, Conversion, Connection, Mode1, Mode4, Mode10, Mode11, State, Stream, Host, Line, Tu}
 
 -- Host text.
@@ -57,7 +57,7 @@ tuAsks (Mode4 port speed) case c = codeIn case c
 tuAsks Mode10 case c = []
 tuAsks Mode11 case c = []
 
--- One byte of a stream, and many; nothing else is asked for.
+-- One byte of a stream; nothing else is asked for.
 
 abbrev pub asksBy : Stream → State → ℕ → List ℕ
 asksBy Host s b = hostAsks (s .connection) (textOf (read (s .reader) b .out))
@@ -66,7 +66,3 @@ asksBy Tu s c = tuAsks (s .connection) (s .incoming) c
 
 abbrev pub asks : State → Event → List ℕ
 asks s e = asksBy (e .stream) s (e .byte)
-
-abbrev pub asksAll : State → List Event → List ℕ
-asksAll s [] = []
-asksAll s (e ∷ es) = asks s e ++ asksAll (step (e .stream) s (e .byte) .state) es

@@ -1,5 +1,5 @@
--- A session that meets every premise of demand 3: commands, text, an ending, a change of limit, a second connection, and there a
--- printer that unshifts on space by itself; two of its calls stop early.
+-- A session that meets every premise of demand 3: commands, text, an ending, a change of limit, a second connection with a printer
+-- that unshifts on space by itself, and a third with one that unshifts on return, also in an ending; two of its calls stop early.
 use Prim.Native.Nat.{ℕ}
 use mathlib.Core.Bool.{true, false, cond}
 use mathlib.Core.List.{List, [], _∷_, _++_}
@@ -10,7 +10,7 @@ use Rattle.step.specs.Step.{Event}
 use Rattle.linebox.specs.Ends.{events}
 use Rattle.demands.specs.Names.{Figures, Printer, Host, Line, Tu}
 use Rattle.demands.specs.Lent.{Lent}
-use Rattle.demands.specs.Traces.{write, mode4, on70, endings}
+use Rattle.demands.specs.Traces.{write, mode1, mode4, on70, on71, endings}
 
 -- a call with so much room in the line buffer
 abbrev host : ℕ → List ℕ → Lent
@@ -35,6 +35,10 @@ change = limit12 ++ on70 ++ 32 ∷ 51 ∷ []
 abbrev figure : List ℕ
 figure = 27 ∷ 23 ∷ 4 ∷ 16 ∷ 8 ∷ []
 
+-- CR and `1234567890123`, with an ending before the last
+abbrev figures : List ℕ
+figures = 13 ∷ 49 ∷ 50 ∷ 51 ∷ 52 ∷ 53 ∷ 54 ∷ 55 ∷ 56 ∷ 57 ∷ 48 ∷ 49 ∷ 50 ∷ 51 ∷ []
+
 -- the second call stops for want of room before the ending, and the sixth at a byte that is no code
 abbrev pub calls : List Lent
 calls =
@@ -45,24 +49,34 @@ calls =
     ∷ host 20 mode4
     ∷ record { stream = Tu; bytes = figure ++ 32 ∷ 3 ∷ []; one = replicate 20 0; two = [] }
     ∷ record { stream = Line; bytes = 3 ∷ []; one = replicate 20 0; two = replicate 20 0 }
+    ∷ host 40 (on71 ++ mode1 ++ figures)
     ∷ []
 
 -- the bytes that they take
 abbrev pub bytes : List Event
-bytes = events Host (endings ++ hello ++ world ++ change ++ mode4) ++ events Tu figure ++ events Line (3 ∷ [])
+bytes = events Host (endings ++ hello ++ world ++ change ++ mode4) ++ events Tu figure ++ events Line (3 ∷ []) ++ events Host (on71 ++ mode1 ++ figures)
 
--- a printer for each connection; the second unshifts on space
+-- a printer for each connection; the second unshifts on space, the third on return
 abbrev pub first : Printer
 first = from Figures 7 false false
 
 abbrev pub second : Printer
 second = from Figures 40 true false
 
--- the second connection comes after the fiftieth byte
-abbrev pub joining : ℕ → Printer
-joining n = cond (ltb n 50) first second
+abbrev pub third : Printer
+third = from Figures 3 false true
 
--- the codes in the line buffers
+-- the second connection comes after the fiftieth byte, the third after the hundredth
+abbrev pub joining : ℕ → Printer
+joining n = cond (ltb n 50) first (cond (ltb n 100) second third)
+
+-- the codes in the line buffers, connection by connection; each `8 ∷ 8 ∷ 2` and `8 ∷ 31 ∷ 8 ∷ 2` begins an ending
 abbrev pub codes : List ℕ
 codes =
-    8 ∷ 31 ∷ 20 ∷ 1 ∷ 18 ∷ 18 ∷ 24 ∷ 4 ∷ 19 ∷ 24 ∷ 10 ∷ 18 ∷ 8 ∷ 8 ∷ 2 ∷ 31 ∷ 31 ∷ 9 ∷ 4 ∷ 27 ∷ 23 ∷ 19 ∷ 4 ∷ 31 ∷ 27 ∷ 1 ∷ 27 ∷ 23 ∷ 4 ∷ 31 ∷ 16 ∷ 8 ∷ []
+    8 ∷ 31 ∷ 20 ∷ 1 ∷ 18 ∷ 18 ∷ 24 ∷ 4 ∷ 19 ∷ 24 ∷ 10 ∷ 18 ∷ 8 ∷ 8 ∷ 2 ∷ 31 ∷ 31 ∷ 9 ∷ 4 ∷ 27 ∷ 23 ∷ 19 ∷ 4 ∷ 31 ∷ 27 ∷ 1 ∷ []
+    ++ 27 ∷ 23 ∷ 4 ∷ 31 ∷ 16 ∷ 8 ∷ []
+    ++ 8 ∷ 31 ∷ 27 ∷ 23 ∷ 19 ∷ 1 ∷ 10 ∷ 16 ∷ 21 ∷ 7 ∷ 6 ∷ 24 ∷ 22 ∷ 23 ∷ 19 ∷ 8 ∷ 31 ∷ 8 ∷ 2 ∷ 31 ∷ 31 ∷ 27 ∷ 1 ∷ []
+
+-- what is asked for, and so printed beside the two endings
+abbrev pub asked : List ℕ
+asked = hello ++ world ++ 32 ∷ 51 ∷ [] ++ 49 ∷ 32 ∷ 84 ∷ 13 ∷ [] ++ figures

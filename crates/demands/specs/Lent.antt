@@ -35,7 +35,7 @@ sentBy Tu r = take (r .gives .first) (r .first)
 abbrev pub sent : Box → State → Lent → List ℕ
 sent box s g = sentBy (g .stream) (result box s g)
 
--- many calls: the bytes taken, and the codes sent
+-- many calls: the bytes taken, the codes sent, and the state that the last one left
 abbrev pub tookAll : Box → State → List Lent → List Event
 tookAll box s [] = []
 tookAll box s (g ∷ gs) = took box s g ++ tookAll box (result box s g .gives .state) gs
@@ -43,3 +43,7 @@ tookAll box s (g ∷ gs) = took box s g ++ tookAll box (result box s g .gives .s
 abbrev pub sentAll : Box → State → List Lent → List ℕ
 sentAll box s [] = []
 sentAll box s (g ∷ gs) = sent box s g ++ sentAll box (result box s g .gives .state) gs
+
+abbrev pub left : Box → State → List Lent → State
+left box s [] = s
+left box s (g ∷ gs) = left box (result box s g .gives .state) gs

@@ -3,13 +3,17 @@ pub mod Box
 pub mod ExactCodes
 pub mod EveryCall
 pub mod ItemCodes
+pub mod Items
+pub mod Connects
 pub mod Asks
 pub mod Lent
 pub mod Story
 pub mod Printing
+pub mod Whole
 pub mod OnRecord
 pub mod ReadingBack
 pub mod WrongBoxes
 pub mod Traces
 pub mod Forgetful
+pub mod ReadingExample
 pub mod Example

@@ -1,26 +1,62 @@
 -- Demand 3, the printer.
 use Prim.Native.Nat.{ℕ}
 use mathlib.Core.Path.{_≡_}
-use mathlib.Core.Bool.{Bool, true, false, _||_}
+use mathlib.Core.Bool.{Bool, true, cond, _||_}
 use mathlib.Core.List.{List, [], _∷_, _++_}
-use Rattle.code.specs.Kinds.{kindOf}
-use Rattle.printer.specs.Printer.{hear, prints, sheet}
+use Rattle.code.specs.Kinds.{kindOf, dependent, shift}
+use Rattle.printer.specs.Printer.{hear, hears, prints, sheet}
+use Rattle.sender.specs.Ending.{untilZero}
 use Rattle.agree.specs.Agrees.{Agrees}
-use Rattle.agree.specs.Asked.{printedAll}
 use Rattle.agree.specs.Margin.{Below}
 use Rattle.agree.specs.Sure.{isReturn}
 use Rattle.step.specs.State.{freshBox}
-use Rattle.step.specs.Step.{step, Event}
-use Rattle.demands.specs.Names.{Wanted, Printer, State}
+use Rattle.step.specs.Step.{Event, run}
+use Rattle.demands.specs.Names.{Letters, Space, Return, Settings, Printer, Mark, State}
 use Rattle.demands.specs.Box.{Box}
-use Rattle.demands.specs.Lent.{Lent, result, tookAll, sentAll}
-use Rattle.demands.specs.Asks.{codeIn, asks, asksAll}
-use Rattle.demands.specs.Story.{Turn, turns, Scene, start, does, turned, after, lineOf, sheetOf, Obedient, charactersOf, itemsOf}
+use Rattle.demands.specs.Lent.{lines, Lent, tookAll, sentAll, left}
+use Rattle.demands.specs.Asks.{asks}
+use Rattle.demands.specs.Story.{Turn, turns, Scene, start, does, turned, Obedient}
 
--- what they are to print as
-abbrev pub reads : List Wanted → List ℕ
-reads [] = []
-reads (w ∷ ws) = codeIn (w .case) (w .code) ++ reads ws
+-- What a byte sends, in stretches.
+
+-- either string 90 as a line ending, or the byte's own codes
+pub record Stretch : Type 0 where
+  pub ending : Bool
+  pub codes : List ℕ
+
+abbrev pub codesOf : List Stretch → List ℕ
+codesOf [] = []
+codesOf (x ∷ xs) = x .codes ++ codesOf xs
+
+-- a string as it goes out, code by code: LTRS may stand before a code that depends on case, and after a space with 70 on or a
+-- return with 71 on
+pub data Goes (o : Settings) : List ℕ → List ℕ → Type 0 where
+  End : Goes o [] []
+  Alone : {c : ℕ} {cs sent : List ℕ} → Goes o cs sent → Goes o (c ∷ cs) (c ∷ sent)
+  Led : {c : ℕ} {cs sent : List ℕ} → dependent (kindOf c) ≡ true → Goes o cs sent → Goes o (c ∷ cs) (shift Letters ∷ c ∷ sent)
+  Spaced : {c : ℕ} {cs sent : List ℕ} → kindOf c ≡ Space → o .onspace ≡ true → Goes o cs sent → Goes o (c ∷ cs) (c ∷ shift Letters ∷ sent)
+  Returned : {c : ℕ} {cs sent : List ℕ} → kindOf c ≡ Return → o .onreturn ≡ true → Goes o cs sent → Goes o (c ∷ cs) (c ∷ shift Letters ∷ sent)
+
+-- each ending is string 90 up to its first 0, and there is one only with 49 on
+abbrev pub Endings : Settings → List Stretch → Type 0
+Endings o [] = Unit {0}
+Endings o (x ∷ xs) = (x .ending ≡ true → (o .endings ≡ true) × Goes o (untilZero (o .string)) (x .codes)) × Endings o xs
+
+abbrev pub charactersOf : List Mark → List ℕ
+charactersOf [] = []
+charactersOf (m ∷ ms) = m .character ∷ charactersOf ms
+
+-- what is printed for the byte's own, by the printer that hears all of it
+abbrev pub ownPrints : Printer → List Stretch → List ℕ
+ownPrints p [] = []
+ownPrints p (x ∷ xs) = cond (x .ending) [] (charactersOf (sheet p (x .codes))) ++ ownPrints (hears p (x .codes)) xs
+
+-- codes print what is asked for, between endings
+pub record Printed (o : Settings) (p : Printer) (codes asked : List ℕ) : Type 0 where
+  pub stretches : List Stretch
+  pub whole : codes ≡ codesOf stretches
+  pub endings : Endings o stretches
+  pub own : ownPrints p stretches ≡ asked
 
 -- after the first return, what lands lands below the limit
 abbrev pub Within : ℕ → Bool → Printer → List ℕ → Type 0
@@ -31,12 +67,8 @@ Within limit returned p (c ∷ cs) = (returned ≡ true → Below limit (prints 
 pub record Keeps (x : Scene) (e : Event) : Type 0 where
   -- a case on record is the printer's, and a column on record is its count, staying at 255
   pub agrees : Agrees (x .state .sender .held) (x .printer)
-  -- with 49 off, exactly what is asked for is printed
-  pub plain : x .state .settings .endings ≡ false → charactersOf (sheet (x .printer) (does x e .line)) ≡ asks (x .state) e
-  -- on or off, each item prints what string 90 prints if its condition held, and then its character
-  pub exact : sheet (x .printer) (does x e .line) ≡ printedAll (x .state .settings) (x .state .sender) (x .printer) (itemsOf (x .state) e)
-  -- and those characters are what is asked for
-  pub asked : reads (itemsOf (x .state) e) ≡ asks (x .state) e
+  -- exactly what the byte asks for is printed, beside line endings
+  pub printed : Printed (x .state .settings) (x .printer) (does x e .line) (asks (x .state) e)
   -- with 49 on, after the first return, each space and struck character lands below the limit
   pub margin : x .state .settings .endings ≡ true → Within (x .state .settings .limit) (x .returned) (x .printer) (does x e .line)
 
@@ -45,26 +77,13 @@ abbrev pub Holds : Scene → List Turn → Type 0
 Holds x [] = Agrees (x .state .sender .held) (x .printer)
 Holds x (t ∷ ts) = Keeps x (t .event) × Holds (turned x t) ts
 
--- 49 is off whenever a byte is taken
-abbrev pub Off : State → List Event → Type 0
-Off s [] = Unit {0}
-Off s (e ∷ es) = (s .settings .endings ≡ false) × Off (step (e .stream) s (e .byte) .state) es
+-- Of bytes taken from a fresh box, the codes sent and the state left: they are those of the bytes, and any printer at first and any
+-- at each connection command that succeeds print so, if they are obedient.
+pub record Prints (es : List Event) (sent : List ℕ) (last : State) : Type 0 where
+  pub codes : sent ≡ lines freshBox es
+  pub state : last ≡ run freshBox es
+  pub holds : (p : Printer) (joining : ℕ → Printer) → Obedient (start p) (turns joining 0 es) → Holds (start p) (turns joining 0 es)
 
--- the state that the last call left
-abbrev pub left : Box → State → List Lent → State
-left box s [] = s
-left box s (g ∷ gs) = left box (result box s g .gives .state) gs
-
--- What is demanded of calls from a fresh box, and of the story of the bytes that they took.
-pub record Printed (box : Box) (gs : List Lent) (p : Printer) (ts : List Turn) : Type 0 where
-  -- the printers hear what the calls wrote to the line buffers
-  pub heard : sentAll box freshBox gs ≡ lineOf (start p) ts
-  pub state : left box freshBox gs ≡ after (start p) ts .state
-  pub holds : Holds (start p) ts
-  -- with 49 off, the list printed is the list asked for
-  pub prints : Off freshBox (tookAll box freshBox gs) → charactersOf (sheetOf (start p) ts) ≡ asksAll freshBox (tookAll box freshBox gs)
-
--- Of any box: any calls from a fresh one, any bytes and buffers, each handed the last state, all answers included; any printer at
--- first, and any at each connection command that succeeds. Their obedience is the one premise.
+-- Of any box: any calls from a fresh one, any bytes and buffers, each handed the last state, all answers included.
 abbrev pub Printing : Box → Type 0
-Printing box = (gs : List Lent) (p : Printer) (joining : ℕ → Printer) → let ts = turns joining 0 (tookAll box freshBox gs) in Obedient (start p) ts → Printed box gs p ts
+Printing box = (gs : List Lent) → Prints (tookAll box freshBox gs) (sentAll box freshBox gs) (left box freshBox gs)

@@ -1,19 +1,18 @@
--- Demand 3, reading back: what was sent since a mode 1 connection reads as the text since then.
+-- Demand 2, reading back: what was sent since a mode 1 connection reads as the text since then, up to any later moment.
 use Prim.Native.Nat.{ℕ}
 use mathlib.Core.Path.{_≡_}
 use mathlib.Core.Bool.{true, false}
 use mathlib.Core.List.{List, [], _∷_, _++_}
-use lib.ListN.{length, drop}
+use lib.ListN.{length, take, drop}
 use Rattle.command.specs.Read.{textOf}
 use Rattle.command.specs.Reads.{made}
 use Rattle.step.specs.Step.{step, Event, run}
 use Rattle.linebox.specs.Ends.{firstsOf}
-use Rattle.step.specs.Laws.{isMode1}
-use Rattle.demands.specs.Names.{State, Stream, Host, Line, Tu, Out}
+use Rattle.demands.specs.Names.{Out, Mode1, State, Stream, Host, Line, Tu}
 use Rattle.demands.specs.Box.{Box}
 use Rattle.demands.specs.Lent.{lines, Lent, tookAll, sentAll}
 use Rattle.demands.specs.Asks.{textBytes}
-use Rattle.demands.specs.Story.{connects}
+use Rattle.demands.specs.Connects.{connects}
 
 -- the box's own line-to-host conversion: what codes from the line give to the host
 abbrev pub readBack : State → List ℕ → List ℕ
@@ -54,13 +53,19 @@ AllPlain s (e ∷ es) = Plain s e × AllPlain (step (e .stream) s (e .byte) .sta
 -- with the byte e a mode 1 connection command succeeds
 pub record Joins (s : State) (e : Event) : Type 0 where
   pub connects : connects s e ≡ true
-  pub mode1 : isMode1 (step (e .stream) s (e .byte) .state .connection) ≡ true
+  pub port : ℕ
+  pub speed : ℕ
+  pub mode1 : step (e .stream) s (e .byte) .state .connection ≡ Mode1 port speed
 
--- Any calls from any state, however the bytes were cut and whatever the buffers: where the bytes taken are some, one that joins
--- and then plain ones, the codes sent after it read back as the text after it.
-abbrev pub ReadingBack : Box → Type 0
-ReadingBack box =
-    (start : State) (gs : List Lent) (before : List Event) (e : Event) (after : List Event) → tookAll box start gs ≡ before ++ (e ∷ after)
+-- Of a state, the bytes taken from it and the codes sent: where the bytes are some, one that joins, then plain ones and any others,
+-- a connection among them too, the codes that the plain ones sent read back as their text.
+abbrev pub ReadsBack : State → List Event → List ℕ → Type 0
+ReadsBack start es sent =
+    (before : List Event) (e : Event) (after later : List Event) → es ≡ before ++ (e ∷ (after ++ later))
     → let s = run start before in
     let joined = step (e .stream) s (e .byte) .state in
-    Joins s e → AllPlain joined after → readBack joined (drop (length (lines start before)) (sentAll box start gs)) ≡ plainText joined after
+    Joins s e → AllPlain joined after → readBack joined (take (length (lines joined after)) (drop (length (lines start before)) sent)) ≡ plainText joined after
+
+-- Of any box: any calls from any state, however the bytes were cut and whatever the buffers.
+abbrev pub ReadingBack : Box → Type 0
+ReadingBack box = (start : State) (gs : List Lent) → ReadsBack start (tookAll box start gs) (sentAll box start gs)

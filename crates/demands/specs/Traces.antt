@@ -86,7 +86,12 @@ tenLetters = 65 ∷ 66 ∷ 67 ∷ 68 ∷ 69 ∷ 70 ∷ 71 ∷ 72 ∷ 73 ∷ 74 �
 abbrev tenSent : List ℕ
 tenSent = 3 ∷ 25 ∷ 14 ∷ 9 ∷ 1 ∷ 13 ∷ 26 ∷ 20 ∷ 6 ∷ 11 ∷ []
 
--- line by line as in the paper; a line that goes on from another is given that one's bytes before it
+-- CR, FIGS, then ten figures
+abbrev tenFigures : List ℕ
+tenFigures = 8 ∷ 27 ∷ 23 ∷ 23 ∷ 23 ∷ 23 ∷ 23 ∷ 23 ∷ 23 ∷ 23 ∷ 23 ∷ 23 ∷ []
+
+-- line by line as in the paper; a line that goes on from another is given that one's bytes before it; the last one is not starred:
+-- incoming figures go on after an ending that holds LTRS
 unfoldable pub traces : List Trace
 traces =
     host mode1 (97 ∷ 49 ∷ 32 ∷ 50 ∷ []) (31 ∷ 3 ∷ 27 ∷ 23 ∷ 4 ∷ 19 ∷ [])
@@ -101,4 +106,5 @@ traces =
     ∷ host (endings ++ 13 ∷ tenLetters) (53 ∷ []) (8 ∷ 8 ∷ 2 ∷ 31 ∷ 31 ∷ 27 ∷ 16 ∷ [])
     ∷ host (endings ++ 13 ∷ tenLetters) (7 ∷ []) (27 ∷ 5 ∷ [])
     ∷ host endings (tenLetters ++ 75 ∷ []) (31 ∷ tenSent ++ 15 ∷ [])
+    ∷ tu (mode4 ++ limit10 ++ on49) (tenFigures ++ 16 ∷ []) (tenFigures ++ 8 ∷ 8 ∷ 2 ∷ 31 ∷ 31 ∷ 27 ∷ 16 ∷ [])
     ∷ []

@@ -1,0 +1,184 @@
+-- Codes that print what is asked for, between endings: so do two lists of them joined, so an item, and so many.
+-- Assumes nothing.
+use Prim.Native.Nat.{ℕ}
+use mathlib.Core.Path.{_≡_, refl, sym, ap, _∙_}
+use mathlib.Core.Bool.{Bool, true, false, cond, _&&_, false≢true}
+use mathlib.Core.List.{List, [], _∷_, _++_, append-assoc, append-nil}
+use Rattle.laws.proofs.Both.{both}
+use lib.Dec.{leb}
+use Rattle.code.specs.Kinds.{kindOf, dependent, moves, shift, shifts}
+use Rattle.printer.specs.Printer.{hear, hears, markAs, printsAs, sheet}
+use Rattle.sender.specs.Record.{notes}
+use Rattle.sender.specs.Code.{isCase, shiftTo, unshift, sendKind, sendAs}
+use Rattle.sender.specs.Ending.{onRecord, endingCode, endingOf, untilZero, due, ending, endingBefore}
+use Rattle.sender.specs.Item.{character, lastOf, item, afterItem, items}
+use Rattle.agree.specs.Agrees.{Agrees, Obeys}
+use Rattle.agree.proofs.Agreement.{agreement}
+use Rattle.agree.proofs.Folds.{sheet-append, obeys-append, item-cases}
+use Rattle.agree.proofs.Prints.{code-prints}
+use Rattle.demands.specs.Names.{Letters, Figures, Kind, Still, Space, Return, Shift, Char, Settings, Known, Is, Column, Record, Wanted, Sender, Printer, Mark}
+use Rattle.demands.specs.Names.known
+use Rattle.demands.specs.Names.column
+use Rattle.demands.specs.Names.last
+use Rattle.demands.specs.Asks.{isShift, codeIn}
+use Rattle.demands.specs.Printing.{Stretch, codesOf, Goes, Endings, charactersOf, ownPrints, Printed}
+use Rattle.demands.proofs.Reading.{reads}
+
+-- Two lists joined.
+
+pub characters-append : (xs ys : List Mark) → charactersOf (xs ++ ys) ≡ charactersOf xs ++ charactersOf ys
+characters-append [] ys = refl
+characters-append (x ∷ xs) ys = rw (characters-append xs ys)
+
+hears-append : (p : Printer) (xs ys : List ℕ) → hears p (xs ++ ys) ≡ hears (hears p xs) ys
+hears-append p [] ys = refl
+hears-append p (x ∷ xs) ys = hears-append (hear p x) xs ys
+
+codes-append : (xs ys : List Stretch) → codesOf (xs ++ ys) ≡ codesOf xs ++ codesOf ys
+codes-append [] ys = refl
+codes-append (x ∷ xs) ys = rw (codes-append xs ys, append-assoc)
+
+own-append : (p : Printer) (xs ys : List Stretch) → ownPrints p (xs ++ ys) ≡ ownPrints p xs ++ ownPrints (hears p (codesOf xs)) ys
+own-append p [] ys = refl
+own-append p (x ∷ xs) ys = rw (own-append (hears p (x .codes)) xs ys, hears-append p (x .codes) (codesOf xs), append-assoc)
+
+module _ (o : Settings) where
+  endings-append : (xs ys : List Stretch) → Endings o xs → Endings o ys → Endings o (xs ++ ys)
+  endings-append [] ys h t = t
+  endings-append (x ∷ xs) ys h t = (h .0, endings-append xs ys (h .1) t)
+
+  printed-append : (p : Printer) (xs ys mine bs : List ℕ) → Printed o p xs mine → Printed o (hears p xs) ys bs → Printed o p (xs ++ ys) (mine ++ bs)
+  printed-append p xs ys mine bs h t = record {
+    stretches = h .stretches ++ t .stretches;
+    whole = rw (codes-append (h .stretches) (t .stretches), ← h .whole, ← t .whole) refl;
+    endings = endings-append (h .stretches) (t .stretches) (h .endings) (t .endings);
+    own = rw (own-append p (h .stretches) (t .stretches), ← h .whole, h .own, t .own) refl;
+  }
+
+  -- nothing, codes of its own, and an ending
+
+  printed-none : (p : Printer) → Printed o p [] []
+  printed-none p = record { stretches = []; whole = refl; endings = tt; own = refl }
+
+  own-printed : (p : Printer) (cs mine : List ℕ) → charactersOf (sheet p cs) ≡ mine → Printed o p cs mine
+  own-printed p cs mine h = record {
+    stretches = record { ending = false; codes = cs } ∷ [];
+    whole = sym (append-nil cs);
+    endings = (λ e. absurd (false≢true e), tt);
+    own = append-nil (charactersOf (sheet p cs)) ∙ h;
+  }
+
+  ending-printed : (p : Printer) (cs : List ℕ) → o .endings ≡ true → Goes o (untilZero (o .string)) cs → Printed o p cs []
+  ending-printed p cs on goes = record {
+    stretches = record { ending = true; codes = cs } ∷ [];
+    whole = sym (append-nil cs);
+    endings = (λ e. (on, goes), tt);
+    own = refl;
+  }
+
+  -- String 90 as it goes out.
+
+  module _ (c : ℕ) (cs sent : List ℕ) (h : Goes o cs sent) where
+    -- with its option on, LTRS follows unless the case is letters
+    followed : (on : Bool) (n : Known) → (on ≡ true → Goes o (c ∷ cs) (c ∷ shift Letters ∷ sent)) → Goes o (c ∷ cs) (c ∷ shifts (unshift on n) ++ sent)
+    followed false n t = Goes.Alone h
+    followed true n t = go (isCase n Letters)
+      where
+        go : (b : Bool) → Goes o (c ∷ cs) (c ∷ shifts (cond b [] (Letters ∷ [])) ++ sent)
+        go true = Goes.Alone h
+        go false = t refl
+
+    -- met with the case unknown, it is preceded by LTRS
+    led : (n : Known) → dependent (kindOf c) ≡ true → Goes o (c ∷ cs) ((shifts (shiftTo n (onRecord n)) ++ c ∷ []) ++ sent)
+    led known.Unknown e = Goes.Led e h
+    led (Is Letters) e = Goes.Alone h
+    led (Is Figures) e = Goes.Alone h
+
+    code-goes : (n : Known) → Goes o (c ∷ cs) (endingCode o n c ++ sent)
+    code-goes n = go (kindOf c) refl
+      where
+        go : (k : Kind) → kindOf c ≡ k → Goes o (c ∷ cs) (sendKind o n (onRecord n) k c ++ sent)
+        go Still e = Goes.Alone h
+        go Space e = followed (o .onspace) n (λ on. Goes.Spaced e on h)
+        go Return e = followed (o .onreturn) n (λ on. Goes.Returned e on h)
+        go (Shift to) e = Goes.Alone h
+        go (Char bell) e = led n (ap dependent e)
+
+  string-goes : (r : Record) (cs : List ℕ) → Goes o cs (endingOf o r cs)
+  string-goes r [] = Goes.End
+  string-goes r (c ∷ cs) =
+      let next = notes o r (endingCode o (r .case) c) in
+      code-goes c cs (endingOf o next cs) (string-goes next cs) (r .case)
+
+  is-on : (col : Column) → due o col ≡ true → o .endings ≡ true
+  is-on column.Unknown h = absurd (false≢true h)
+  is-on (column.At n) h = both (o .endings) (leb (o .limit) n) h .0
+
+  ending-if : (p : Printer) (r : Record) (b : Bool) → (b ≡ true → o .endings ≡ true) → Printed o p (ending o r b) []
+  ending-if p r true h = ending-printed p (endingOf o r (untilZero (o .string))) (h refl) (string-goes r (untilZero (o .string)))
+  ending-if p r false h = printed-none p
+
+  -- Items.
+
+  characters : (k : Kind) (m : Mark) → charactersOf (printsAs k m) ≡ cond (isShift k) [] (m .character ∷ [])
+  characters Still m = refl
+  characters Space m = refl
+  characters Return m = refl
+  characters (Shift to) m = refl
+  characters (Char bell) m = refl
+
+  character-printed : (r : Record) (p : Printer) (w : Wanted) → Obeys o p (character o r w) → Agrees r p → Printed o p (character o r w) (codeIn (w .case) (w .code))
+  character-printed r p w obeys a =
+      let k = kindOf (w .code) in
+      let e = endingBefore o r w in
+      let q = hears p e in
+      let cs = sendAs o (notes o r e .case) (w .case) (w .code) in
+      let b = agreement o r p e (obeys-append o p e cs obeys .0) a in
+      let own = ap charactersOf (code-prints o (notes o r e) q (w .case) (w .code) b) ∙ characters k (markAs k (w .case) (q .count) (w .code)) in
+      printed-append p e cs [] (codeIn (w .case) (w .code))
+      (ending-if p r (moves (w .case) k && due o (r .column)) (λ h. is-on (r .column) (both (moves (w .case) k) (due o (r .column)) h .1)))
+      (own-printed q cs (codeIn (w .case) (w .code)) own)
+
+  -- a shift may be dropped, and has nothing to print
+  item-printed : (s : Sender) (p : Printer) (w : Wanted) → Obeys o p (item o s w) → Agrees (s .held) p → Printed o p (item o s w) (codeIn (w .case) (w .code))
+  item-printed s p w obeys a = go (kindOf (w .code)) refl
+    where
+      sent : lastOf (kindOf (w .code)) ≡ last.Other → Printed o p (item o s w) (codeIn (w .case) (w .code))
+      sent h = rw h (character-printed (s .held) p w (rw h at obeys) a)
+
+      go : (k : Kind) → kindOf (w .code) ≡ k → Printed o p (item o s w) (codeIn (w .case) (w .code))
+      go Still e = sent (ap lastOf e)
+      go Space e = sent (ap lastOf e)
+      go Return e = sent (ap lastOf e)
+      go (Shift to) e = item-cases o s w (λ cs. Obeys o p cs → Printed o p cs (codeIn (w .case) (w .code))) (λ h. rw e (printed-none p)) (λ h. character-printed (s .held) p w h a) obeys
+      go (Char bell) e = sent (ap lastOf e)
+
+  -- items print as they read
+  pub items-printed : (s : Sender) (p : Printer) (ws : List Wanted) → Obeys o p (items o s ws) → Agrees (s .held) p → Printed o p (items o s ws) (reads ws)
+  items-printed s p [] obeys a = printed-none p
+  items-printed s p (w ∷ ws) obeys a =
+      let cs = item o s w in
+      let rest = items o (afterItem o s w) ws in
+      let both = obeys-append o p cs rest obeys in
+      printed-append p cs rest (codeIn (w .case) (w .code)) (reads ws) (item-printed s p w (both .0) a)
+      (items-printed (afterItem o s w) (hears p cs) ws (both .1) (agreement o (s .held) p cs (both .0) a))
+
+  -- With 49 off there is no ending, and all that is printed was asked for.
+  module _ (off : o .endings ≡ false) where
+    all-own : (p : Printer) (xs : List Stretch) → Endings o xs → ownPrints p xs ≡ charactersOf (sheet p (codesOf xs))
+    all-own p [] h = refl
+    all-own p (x ∷ xs) h =
+        go (x .ending) refl
+        ∙ ap (λ (u : List ℕ). charactersOf (sheet p (x .codes)) ++ u) (all-own (hears p (x .codes)) xs (h .1))
+        ∙ sym (characters-append (sheet p (x .codes)) (sheet (hears p (x .codes)) (codesOf xs)))
+        ∙ ap charactersOf (sym (sheet-append p (x .codes) (codesOf xs)))
+      where
+        rest : List ℕ
+        rest = ownPrints (hears p (x .codes)) xs
+
+        go : (b : Bool) → x .ending ≡ b → cond b [] (charactersOf (sheet p (x .codes))) ++ rest ≡ charactersOf (sheet p (x .codes)) ++ rest
+        go true e = absurd (false≢true (sym off ∙ h .0 e .0))
+        go false e = refl
+
+    pub plain-printed : (p : Printer) (cs mine : List ℕ) → Printed o p cs mine → charactersOf (sheet p cs) ≡ mine
+    plain-printed p cs mine h = ap (λ (u : List ℕ). charactersOf (sheet p u)) (h .whole) ∙ sym (all-own p (h .stretches) (h .endings)) ∙ h .own
