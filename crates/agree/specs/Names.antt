@@ -17,7 +17,5 @@ pub use Rattle.sender.specs.declared.Column.{Column}
 pub use Rattle.sender.specs.declared.Column.the-variants.{At}
 pub use Rattle.sender.specs.declared.Column.the-variants as column
 pub use Rattle.sender.specs.declared.Record.{Record}
-pub use Rattle.sender.specs.declared.Last.{Last}
-pub use Rattle.sender.specs.declared.Last.the-variants as last
 pub use Rattle.sender.specs.declared.Wanted.{Wanted}
 pub use Rattle.sender.specs.declared.Sender.{Sender}

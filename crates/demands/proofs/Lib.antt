@@ -12,6 +12,7 @@ pub mod Printing
 pub mod Whole
 pub mod Apart
 pub mod WrongBoxes
+pub mod WrongEndings
 pub mod Forgetful
 pub mod Traces
 pub mod ReadingExample

@@ -1,7 +1,6 @@
 -- Demand 3. Between two bytes the state is sound, the record and the printer agree, and after a return the column is on record.
 -- Assumes nothing.
-use Prim.Native.Nat.{ℕ}
-use mathlib.Core.Path.{_≡_, refl, sym, ap, _∙_}
+use mathlib.Core.Path.{_≡_, refl, ap, _∙_}
 use mathlib.Core.Bool.{Bool, true, false, cond, _||_, false≢true}
 use mathlib.Core.List.{List, [], _∷_}
 use Rattle.printer.specs.Printer.{hears}
@@ -14,15 +13,14 @@ use Rattle.agree.proofs.Told.{column-told}
 use Rattle.step.specs.State.{sound, freshBox}
 use Rattle.step.specs.Step.{Event, run}
 use Rattle.step.proofs.Stays.{sound-parts, sound-step, fresh-sound}
-use Rattle.demands.specs.Names.{Settings, Wanted, Sender, Printer}
+use Rattle.demands.specs.Names.{Settings, Wanted, Sender}
 use Rattle.demands.specs.Box.{Box, ours}
 use Rattle.demands.specs.EveryCall.{EveryCall}
 use Rattle.demands.specs.Connects.{connects}
 use Rattle.demands.specs.Items.{itemsOf}
-use Rattle.demands.specs.Asks.{asks}
 use Rattle.demands.specs.Lent.{lines, tookAll}
 use Rattle.demands.specs.Story.{Turn, turns, Scene, start, does, turned, Obedient}
-use Rattle.demands.specs.Printing.{Printed, Within, Keeps, Holds, Prints, Printing}
+use Rattle.demands.specs.Printing.{Keeps, Holds, Prints, Printing}
 use Rattle.demands.proofs.OurBox.{ours-every-call}
 use Rattle.demands.proofs.Lent.{all-sent, left-run}
 use Rattle.demands.proofs.Sending.{line-items, sender-items}
@@ -52,27 +50,22 @@ module _ (x : Scene) (t : Turn) (stands : Stands x) (obeys : Obeys (x .state .se
   obeys-items : Obeys o (x .printer) (items o sender ws)
   obeys-items = rw (line-items (x .state) e) at obeys
 
-  printed : Printed o (x .printer) (does x e .line) (asks (x .state) e)
-  printed = rw (line-items (x .state) e, ← items-read (x .state) e) (items-printed o sender (x .printer) ws obeys-items (stands .agrees))
-
-  margin : o .endings ≡ true → Within (o .limit) (x .returned) (x .printer) (does x e .line)
-  margin on =
-      let parts = sound-parts (x .state) (stands .sound) in
-      rw (line-items (x .state) e) (items-within o (parts .held .settings) (parts .held .places) on sender (x .printer) ws (x .returned) (stands .sure) obeys-items (stands .agrees))
-
   keeps : Keeps x e
-  keeps = record { agrees = stands .agrees; printed = printed; margin = margin }
+  keeps = record {
+    agrees = stands .agrees;
+    printed = rw (line-items (x .state) e, ← items-read (x .state) e) (items-printed o sender (x .printer) ws obeys-items (stands .agrees));
+    margin = λ on.
+        let parts = sound-parts (x .state) (stands .sound) in
+        rw (line-items (x .state) e) (items-within o (parts .held .settings) (parts .held .places) on sender (x .printer) ws (x .returned) (stands .sure) obeys-items (stands .agrees));
+  }
 
   -- The same stands after the byte.
 
-  -- one that connects leaves nothing on record, and no return counts
-  no-return : connects (x .state) e ≡ true → turned x t .returned ≡ false
-  no-return c = rw c
-
+  -- a connection leaves nothing on record
   sender-after : (b : Bool) → connects (x .state) e ≡ b → turned x t .state .sender ≡ cond b fresh (afterItems o sender ws)
   sender-after b c = sender-items (x .state) e ∙ ap (λ (q : Bool). cond q fresh (afterItems o sender ws)) c
 
-  -- after another the printer has heard it all
+  -- a byte that does not connect: the printer has heard its codes, and a return among them tells the column
   heard : Agrees (afterItems o sender ws .held) (hears (x .printer) (does x e .line))
   heard = rw (items-noted o sender ws, line-items (x .state) e) (agreement o (sender .held) (x .printer) (items o sender ws) obeys-items (stands .agrees))
 
@@ -86,8 +79,8 @@ module _ (x : Scene) (t : Turn) (stands : Stands x) (obeys : Obeys (x .state .se
       safe = sound-step (e .stream) (x .state) (e .byte) (stands .sound)
 
       go : (b : Bool) → connects (x .state) e ≡ b → Stands (turned x t)
-      go true c = record { sound = safe; agrees = rw (sender-after true c) (unknown-agrees (turned x t .printer)); sure = λ q. absurd (false≢true (sym (no-return c) ∙ q)) }
-      go false c = record { sound = safe; agrees = rw (c, sender-after false c) heard; sure = λ q. rw (sender-after false c) (told (rw c at q)) }
+      go true c = rw c (record { sound = safe; agrees = rw (sender-after true c) (unknown-agrees (t .joining)); sure = λ q. absurd (false≢true q) })
+      go false c = rw c (record { sound = safe; agrees = rw (sender-after false c) heard; sure = λ q. rw (sender-after false c) (told q) })
 
 holds-from : (x : Scene) (ts : List Turn) → Stands x → Obedient x ts → Holds x ts
 holds-from x [] h obeys = h .agrees

@@ -26,7 +26,7 @@ use Rattle.demands.specs.Connects.{connecting, connectsBy, connects}
 use Rattle.demands.specs.Items.{itemsOf}
 use Rattle.demands.specs.Asks.{textBytes, hostAsks, tuAsks, asksBy, asks}
 use Rattle.demands.specs.Lent.{lines}
-use Rattle.demands.specs.Printing.{charactersOf, Printed}
+use Rattle.demands.specs.Printing.{charactersOf}
 use Rattle.demands.specs.Whole.{asksAll}
 use Rattle.demands.specs.ReadingBack.{readBack, hostByte, hostBytes, texts, plainText, AllPlain, Joins, ReadsBack}
 use Rattle.demands.proofs.Sending.{line-items, sender-items}

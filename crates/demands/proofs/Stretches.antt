@@ -55,7 +55,7 @@ module _ (o : Settings) where
     own = rw (own-append p (h .stretches) (t .stretches), ← h .whole, h .own, t .own) refl;
   }
 
-  -- nothing, codes of its own, and an ending
+  -- nothing, and codes of its own
 
   printed-none : (p : Printer) → Printed o p [] []
   printed-none p = record { stretches = []; whole = refl; endings = tt; own = refl }
@@ -66,14 +66,6 @@ module _ (o : Settings) where
     whole = sym (append-nil cs);
     endings = (λ e. absurd (false≢true e), tt);
     own = append-nil (charactersOf (sheet p cs)) ∙ h;
-  }
-
-  ending-printed : (p : Printer) (cs : List ℕ) → o .endings ≡ true → Goes o (untilZero (o .string)) cs → Printed o p cs []
-  ending-printed p cs on goes = record {
-    stretches = record { ending = true; codes = cs } ∷ [];
-    whole = sym (append-nil cs);
-    endings = (λ e. (on, goes), tt);
-    own = refl;
   }
 
   -- String 90 as it goes out.
@@ -114,9 +106,17 @@ module _ (o : Settings) where
   is-on column.Unknown h = absurd (false≢true h)
   is-on (column.At n) h = both (o .endings) (leb (o .limit) n) h .0
 
-  ending-if : (p : Printer) (r : Record) (b : Bool) → (b ≡ true → o .endings ≡ true) → Printed o p (ending o r b) []
-  ending-if p r true h = ending-printed p (endingOf o r (untilZero (o .string))) (h refl) (string-goes r (untilZero (o .string)))
-  ending-if p r false h = printed-none p
+  -- string 90 if it is due
+  ending-printed : (p : Printer) (r : Record) (b : Bool) → (b ≡ true → o .endings ≡ true) → Printed o p (ending o r b) []
+  ending-printed p r false h = printed-none p
+  ending-printed p r true h =
+      let string = untilZero (o .string) in
+      record {
+        stretches = record { ending = true; codes = endingOf o r string } ∷ [];
+        whole = sym (append-nil (endingOf o r string));
+        endings = (λ e. (h refl, string-goes r string), tt);
+        own = refl;
+      }
 
   -- Items.
 
@@ -136,7 +136,7 @@ module _ (o : Settings) where
       let b = agreement o r p e (obeys-append o p e cs obeys .0) a in
       let own = ap charactersOf (code-prints o (notes o r e) q (w .case) (w .code) b) ∙ characters k (markAs k (w .case) (q .count) (w .code)) in
       printed-append p e cs [] (codeIn (w .case) (w .code))
-      (ending-if p r (moves (w .case) k && due o (r .column)) (λ h. is-on (r .column) (both (moves (w .case) k) (due o (r .column)) h .1)))
+      (ending-printed p r (moves (w .case) k && due o (r .column)) (λ h. is-on (r .column) (both (moves (w .case) k) (due o (r .column)) h .1)))
       (own-printed q cs (codeIn (w .case) (w .code)) own)
 
   -- a shift may be dropped, and has nothing to print

@@ -13,6 +13,7 @@ pub mod Whole
 pub mod OnRecord
 pub mod ReadingBack
 pub mod WrongBoxes
+pub mod WrongEndings
 pub mod Traces
 pub mod Forgetful
 pub mod ReadingExample

@@ -51,7 +51,7 @@ abbrev pub ownPrints : Printer → List Stretch → List ℕ
 ownPrints p [] = []
 ownPrints p (x ∷ xs) = cond (x .ending) [] (charactersOf (sheet p (x .codes))) ++ ownPrints (hears p (x .codes)) xs
 
--- codes print what is asked for, between endings
+-- codes print exactly what is asked for, beside endings
 pub record Printed (o : Settings) (p : Printer) (codes asked : List ℕ) : Type 0 where
   pub stretches : List Stretch
   pub whole : codes ≡ codesOf stretches
@@ -67,7 +67,7 @@ Within limit returned p (c ∷ cs) = (returned ≡ true → Below limit (prints 
 pub record Keeps (x : Scene) (e : Event) : Type 0 where
   -- a case on record is the printer's, and a column on record is its count, staying at 255
   pub agrees : Agrees (x .state .sender .held) (x .printer)
-  -- exactly what the byte asks for is printed, beside line endings
+  -- exactly what the byte asks for is printed, beside endings
   pub printed : Printed (x .state .settings) (x .printer) (does x e .line) (asks (x .state) e)
   -- with 49 on, after the first return, each space and struck character lands below the limit
   pub margin : x .state .settings .endings ≡ true → Within (x .state .settings .limit) (x .returned) (x .printer) (does x e .line)
@@ -77,8 +77,8 @@ abbrev pub Holds : Scene → List Turn → Type 0
 Holds x [] = Agrees (x .state .sender .held) (x .printer)
 Holds x (t ∷ ts) = Keeps x (t .event) × Holds (turned x t) ts
 
--- Of bytes taken from a fresh box, the codes sent and the state left: they are those of the bytes, and any printer at first and any
--- at each connection command that succeeds print so, if they are obedient.
+-- Of bytes taken from a fresh box, the codes sent and the state left: both are what the bytes give one after the other, and so what the
+-- printers hear; and it holds of any printer at first and any at each connection command that succeeds, if they are obedient.
 pub record Prints (es : List Event) (sent : List ℕ) (last : State) : Type 0 where
   pub codes : sent ≡ lines freshBox es
   pub state : last ≡ run freshBox es
