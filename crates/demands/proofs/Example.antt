@@ -17,13 +17,13 @@ use Rattle.step.specs.State.{freshBox}
 use Rattle.step.specs.Step.{step}
 use Rattle.demands.specs.Names.{Kind, Still, Space, Return, Shift, Char, Settings, Printer, State}
 use Rattle.demands.specs.Box.{ours}
-use Rattle.demands.specs.Lent.{tookAll, sentAll}
+use Rattle.demands.specs.Lent.{tookAll, sentAll, exchanges}
 use Rattle.demands.specs.Connects.{connects}
 use Rattle.demands.specs.Story.{Turn, turns, Scene, start, does, turned, Obedient}
 use Rattle.demands.specs.Printing.{Holds}
 use Rattle.demands.specs.Whole.{ownOf, asksAll}
 use Rattle.demands.specs.Example.{calls, bytes, first, joining, codes, asked}
-use Rattle.demands.proofs.Printing.{ours-prints}
+use Rattle.demands.proofs.Lent.{ours-prints}
 use Rattle.demands.proofs.Whole.{own-prints}
 
 -- Obedience as a test.
@@ -73,12 +73,12 @@ obedient x (t ∷ ts) h =
 -- The example.
 
 -- what its calls write to the line buffers
-pub example-codes : sentAll ours freshBox calls ≡ codes
+pub example-codes : sentAll (exchanges ours freshBox calls) ≡ codes
 unfolding conversion kindOf rowAt digits soundString idOf commanded
 example-codes = refl
 
 -- the bytes that its calls take
-pub example-bytes : tookAll ours freshBox calls ≡ bytes
+pub example-bytes : tookAll (exchanges ours freshBox calls) ≡ bytes
 unfolding conversion kindOf rowAt digits soundString idOf commanded
 example-bytes = refl
 
@@ -87,11 +87,11 @@ example-test : obeyAll freshBox first (turns joining 0 bytes) ≡ true
 unfolding conversion kindOf rowAt digits soundString idOf commanded
 example-test = refl
 
-pub example-obedient : Obedient (start first) (turns joining 0 (tookAll ours freshBox calls))
+pub example-obedient : Obedient (start first) (turns joining 0 (tookAll (exchanges ours freshBox calls)))
 example-obedient = rw example-bytes (obedient (start first) (turns joining 0 bytes) example-test)
 
 -- so demand 3 holds of it
-pub example : Holds (start first) (turns joining 0 (tookAll ours freshBox calls))
+pub example : Holds (start first) (turns joining 0 (tookAll (exchanges ours freshBox calls)))
 example = ours-prints calls .holds first joining example-obedient
 
 -- and what is printed beside its two endings is what it asks for
@@ -99,5 +99,5 @@ pub example-asked : asksAll freshBox bytes ≡ asked
 unfolding conversion kindOf rowAt digits soundString idOf commanded
 example-asked = refl
 
-pub example-own : ownOf (start first) (turns joining 0 (tookAll ours freshBox calls)) example ≡ asked
-example-own = own-prints joining (start first) 0 (tookAll ours freshBox calls) example ∙ ap (asksAll freshBox) example-bytes ∙ example-asked
+pub example-own : ownOf (start first) (turns joining 0 (tookAll (exchanges ours freshBox calls))) example ≡ asked
+example-own = own-prints joining (start first) 0 (tookAll (exchanges ours freshBox calls)) example ∙ ap (asksAll freshBox) example-bytes ∙ example-asked

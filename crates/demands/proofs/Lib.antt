@@ -5,10 +5,10 @@ pub mod Sending
 pub mod Reading
 pub mod Stretches
 pub mod ReadingBack
-pub mod Lent
 pub mod OnRecord
 pub mod Landing
 pub mod Printing
+pub mod Lent
 pub mod Whole
 pub mod Apart
 pub mod WrongBoxes

@@ -16,7 +16,7 @@ use Rattle.linebox.proofs.Ending.{ends, folds, only, one, within, call-fits}
 use Rattle.demands.specs.Names.{State, Stream, Tu, Called}
 use Rattle.demands.specs.Box.{Result, Box, resulting, ours}
 use Rattle.demands.specs.ExactCodes.{ExactCodes}
-use Rattle.demands.specs.EveryCall.{noCode, hasRoom, Goes, Exactly, Stands, Splits, Ended, EveryCall}
+use Rattle.demands.specs.EveryCall.{noCode, hasRoom, Goes, Exactly, Condition, Splits, Ended, EveryCall}
 
 module _ (t : Stream) (s : State) (a b : ℕ) where
   -- A byte and those before it.
@@ -33,13 +33,13 @@ module _ (t : Stream) (s : State) (a b : ℕ) where
       let q : getD xs i 0 ≡ x = rw e (getD-at before x more 0 i l) in
       record { accepts = rw (p, q) (h .code); fits = rw (p, q) (h .room) }
 
-  -- at most one stands: the state and the next byte tell which
+  -- at most one holds: the state and the next byte tell which
   abbrev number : List ℕ → Bool → List ℕ → ℕ
   number taken false rest = 3
   number taken true [] = 0
   number taken true (x ∷ rest) = cond (noCode t s taken x) 2 (cond (hasRoom t s a b taken x) 4 1)
 
-  told : (taken rest : List ℕ) (w : ℕ) → Stands t s a b taken rest w → number taken (sound s) rest ≡ w
+  told : (taken rest : List ℕ) (w : ℕ) → Condition t s a b taken rest w → number taken (sound s) rest ≡ w
   told taken rest zero h = rw (h .0, h .1)
   told taken [] (suc zero) h = absurd (h .1)
   told taken (x ∷ rest) (suc zero) h = rw (h .0, h .1 .0, h .1 .1)
@@ -48,13 +48,13 @@ module _ (t : Stream) (s : State) (a b : ℕ) where
   told taken rest (suc (suc (suc zero))) h = rw h
   told taken rest (suc (suc (suc (suc w)))) h = absurd h
 
-  -- the one that stands is the answer
-  exact : (taken rest : List ℕ) (w : ℕ) → Stands t s a b taken rest w → (n : ℕ) → Exactly (w ≡ n) (Stands t s a b taken rest n)
-  exact taken rest w h n = record { only = λ e. subst (Stands t s a b taken rest) e h; then = λ k. sym (told taken rest w h) ∙ told taken rest n k }
+  -- the one whose condition holds is the answer
+  exact : (taken rest : List ℕ) (w : ℕ) → Condition t s a b taken rest w → (n : ℕ) → Exactly (w ≡ n) (Condition t s a b taken rest n)
+  exact taken rest w h n = record { only = λ e. subst (Condition t s a b taken rest) e h; then = λ k. sym (told taken rest w h) ∙ told taken rest n k }
 
   -- A count gives a split.
 
-  counted : (xs : List ℕ) (n w : ℕ) → sound s ≡ fromSound w → When t s xs a b n w → Stands t s a b (take n xs) (drop n xs) w
+  counted : (xs : List ℕ) (n w : ℕ) → sound s ≡ fromSound w → When t s xs a b n w → Condition t s a b (take n xs) (drop n xs) w
   counted xs n zero e h = (e, drop-of-length-le xs (le-of-eq (sym h)))
   counted xs n (suc zero) e h = rw (drop-cons xs n 0 (h .0)) (e, h .1)
   counted xs n (suc (suc zero)) e h = rw (drop-cons xs n 0 (h .0)) (e, h .1)
@@ -83,7 +83,7 @@ module _ (t : Stream) (s : State) (a b : ℕ) where
 
   -- A split gives a count.
 
-  when : (taken rest : List ℕ) (w : ℕ) → (sound s ≡ false → taken ≡ []) → Stands t s a b taken rest w → When t s (taken ++ rest) a b (length taken) w
+  when : (taken rest : List ℕ) (w : ℕ) → (sound s ≡ false → taken ≡ []) → Condition t s a b taken rest w → When t s (taken ++ rest) a b (length taken) w
   when taken rest zero none h = rw (h .1) (rw append-nil refl)
   when taken [] (suc zero) none h = absurd (h .1)
   when taken (x ∷ rest) (suc zero) none h =
@@ -98,7 +98,7 @@ module _ (t : Stream) (s : State) (a b : ℕ) where
   when taken rest (suc (suc (suc zero))) none h = ap length (none h)
   when taken rest (suc (suc (suc (suc w)))) none h = absurd h
 
-  handed : (taken rest : List ℕ) (w : ℕ) → Stands t s a b taken rest w → sound s ≡ fromSound w
+  handed : (taken rest : List ℕ) (w : ℕ) → Condition t s a b taken rest w → sound s ≡ fromSound w
   handed taken rest zero h = h .0
   handed taken rest (suc zero) h = h .0
   handed taken rest (suc (suc zero)) h = h .0

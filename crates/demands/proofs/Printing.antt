@@ -14,15 +14,11 @@ use Rattle.step.specs.State.{sound, freshBox}
 use Rattle.step.specs.Step.{Event, run}
 use Rattle.step.proofs.Stays.{sound-parts, sound-step, fresh-sound}
 use Rattle.demands.specs.Names.{Settings, Wanted, Sender}
-use Rattle.demands.specs.Box.{Box, ours}
-use Rattle.demands.specs.EveryCall.{EveryCall}
 use Rattle.demands.specs.Connects.{connects}
 use Rattle.demands.specs.Items.{itemsOf}
-use Rattle.demands.specs.Lent.{lines, tookAll}
+use Rattle.demands.specs.Lent.{lines}
 use Rattle.demands.specs.Story.{Turn, turns, Scene, start, does, turned, Obedient}
-use Rattle.demands.specs.Printing.{Keeps, Holds, Prints, Printing}
-use Rattle.demands.proofs.OurBox.{ours-every-call}
-use Rattle.demands.proofs.Lent.{all-sent, left-run}
+use Rattle.demands.specs.Printing.{Keeps, Holds, Prints}
 use Rattle.demands.proofs.Sending.{line-items, sender-items}
 use Rattle.demands.proofs.Reading.{items-read}
 use Rattle.demands.proofs.Stretches.{items-printed}
@@ -93,12 +89,3 @@ lines-print es = record {
   state = refl;
   holds = λ p joining obeys. holds-from (start p) (turns joining 0 es) (record { sound = fresh-sound; agrees = unknown-agrees p; sure = λ q. absurd (false≢true q) }) obeys;
 }
-
--- Demand 3 of every box that meets demand 1.
-pub box-prints : (box : Box) → EveryCall box → Printing box
-box-prints box meets gs = rw (all-sent box meets freshBox gs, left-run box meets freshBox gs) (lines-print (tookAll box freshBox gs))
-
--- Every character asked for prints as itself, in order, and nothing else but endings; a case on record is the printer's and a column
--- on record its count; after the first return, with 49 on, what lands lands below the limit.
-pub ours-prints : Printing ours
-ours-prints = box-prints ours ours-every-call

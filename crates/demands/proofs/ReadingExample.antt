@@ -18,7 +18,7 @@ use Rattle.linebox.proofs.Turns.{turned-true}
 use Rattle.demands.specs.Names.{State}
 use Rattle.demands.specs.Box.{ours}
 use Rattle.demands.specs.Connects.{connects}
-use Rattle.demands.specs.Lent.{lines, tookAll, sentAll}
+use Rattle.demands.specs.Lent.{lines, tookAll, sentAll, exchanges}
 use Rattle.demands.specs.ReadingBack.{readBack, plainText, AllPlain, Joins}
 use Rattle.demands.specs.ReadingExample.{calls, before, joining, after, later, connected, codes, lastCodes, text}
 use Rattle.demands.proofs.Lent.{ours-reads-back}
@@ -43,11 +43,11 @@ all-plain s (e ∷ es) h =
 
 -- The calls.
 
-pub example-took : tookAll ours freshBox calls ≡ before ++ (joining ∷ (after ++ later))
+pub example-took : tookAll (exchanges ours freshBox calls) ≡ before ++ (joining ∷ (after ++ later))
 unfolding commanded idOf soundString conversion kindOf rowAt digits
 example-took = refl
 
-pub example-sent : sentAll ours freshBox calls ≡ codes ++ lastCodes
+pub example-sent : sentAll (exchanges ours freshBox calls) ≡ codes ++ lastCodes
 unfolding commanded idOf soundString conversion kindOf rowAt digits
 example-sent = refl
 

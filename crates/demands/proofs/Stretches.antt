@@ -21,7 +21,7 @@ use Rattle.demands.specs.Names.known
 use Rattle.demands.specs.Names.column
 use Rattle.demands.specs.Names.last
 use Rattle.demands.specs.Asks.{isShift, codeIn}
-use Rattle.demands.specs.Printing.{Stretch, codesOf, Goes, Endings, charactersOf, ownPrints, Printed}
+use Rattle.demands.specs.Printing.{Stretch, codesOf, GoesOut, Endings, charactersOf, ownPrints, Printed}
 use Rattle.demands.proofs.Reading.{reads}
 
 -- Two lists joined.
@@ -70,34 +70,34 @@ module _ (o : Settings) where
 
   -- String 90 as it goes out.
 
-  module _ (c : ℕ) (cs sent : List ℕ) (h : Goes o cs sent) where
+  module _ (c : ℕ) (cs sent : List ℕ) (h : GoesOut o cs sent) where
     -- with its option on, LTRS follows unless the case is letters
-    followed : (on : Bool) (n : Known) → (on ≡ true → Goes o (c ∷ cs) (c ∷ shift Letters ∷ sent)) → Goes o (c ∷ cs) (c ∷ shifts (unshift on n) ++ sent)
-    followed false n t = Goes.Alone h
+    followed : (on : Bool) (n : Known) → (on ≡ true → GoesOut o (c ∷ cs) (c ∷ shift Letters ∷ sent)) → GoesOut o (c ∷ cs) (c ∷ shifts (unshift on n) ++ sent)
+    followed false n t = GoesOut.Alone h
     followed true n t = go (isCase n Letters)
       where
-        go : (b : Bool) → Goes o (c ∷ cs) (c ∷ shifts (cond b [] (Letters ∷ [])) ++ sent)
-        go true = Goes.Alone h
+        go : (b : Bool) → GoesOut o (c ∷ cs) (c ∷ shifts (cond b [] (Letters ∷ [])) ++ sent)
+        go true = GoesOut.Alone h
         go false = t refl
 
     -- met with the case unknown, it is preceded by LTRS
-    led : (n : Known) → dependent (kindOf c) ≡ true → Goes o (c ∷ cs) ((shifts (shiftTo n (onRecord n)) ++ c ∷ []) ++ sent)
-    led known.Unknown e = Goes.Led e h
-    led (Is Letters) e = Goes.Alone h
-    led (Is Figures) e = Goes.Alone h
+    led : (n : Known) → dependent (kindOf c) ≡ true → GoesOut o (c ∷ cs) ((shifts (shiftTo n (onRecord n)) ++ c ∷ []) ++ sent)
+    led known.Unknown e = GoesOut.Led e h
+    led (Is Letters) e = GoesOut.Alone h
+    led (Is Figures) e = GoesOut.Alone h
 
-    code-goes : (n : Known) → Goes o (c ∷ cs) (endingCode o n c ++ sent)
+    code-goes : (n : Known) → GoesOut o (c ∷ cs) (endingCode o n c ++ sent)
     code-goes n = go (kindOf c) refl
       where
-        go : (k : Kind) → kindOf c ≡ k → Goes o (c ∷ cs) (sendKind o n (onRecord n) k c ++ sent)
-        go Still e = Goes.Alone h
-        go Space e = followed (o .onspace) n (λ on. Goes.Spaced e on h)
-        go Return e = followed (o .onreturn) n (λ on. Goes.Returned e on h)
-        go (Shift to) e = Goes.Alone h
+        go : (k : Kind) → kindOf c ≡ k → GoesOut o (c ∷ cs) (sendKind o n (onRecord n) k c ++ sent)
+        go Still e = GoesOut.Alone h
+        go Space e = followed (o .onspace) n (λ on. GoesOut.Spaced e on h)
+        go Return e = followed (o .onreturn) n (λ on. GoesOut.Returned e on h)
+        go (Shift to) e = GoesOut.Alone h
         go (Char bell) e = led n (ap dependent e)
 
-  string-goes : (r : Record) (cs : List ℕ) → Goes o cs (endingOf o r cs)
-  string-goes r [] = Goes.End
+  string-goes : (r : Record) (cs : List ℕ) → GoesOut o cs (endingOf o r cs)
+  string-goes r [] = GoesOut.End
   string-goes r (c ∷ cs) =
       let next = notes o r (endingCode o (r .case) c) in
       code-goes c cs (endingOf o next cs) (string-goes next cs) (r .case)

@@ -14,7 +14,7 @@ use Rattle.settings.specs.Table.{factory}
 use Rattle.printer.specs.Printer.{hear, hears, markAs, printsAs, sheet}
 use Rattle.sender.specs.Ending.{untilZero}
 use Rattle.demands.specs.Names.{Letters, Kind, Still, Space, Return, Shift, Char, Settings, Printer, Mark}
-use Rattle.demands.specs.Printing.{Stretch, codesOf, Goes, Endings, charactersOf, ownPrints, Printed}
+use Rattle.demands.specs.Printing.{Stretch, codesOf, GoesOut, Endings, charactersOf, ownPrints, Printed}
 use Rattle.demands.specs.WrongEndings.{printsMore, filtered, ended}
 use Rattle.demands.proofs.Stretches.{plain-printed}
 
@@ -52,19 +52,19 @@ endingsIn (x ∷ xs) = cond (x .ending) 1 0 + endingsIn xs
 
 module _ (o : Settings) where
   -- the LTRS that go with it add codes and print nothing
-  goes-marks : {cs sent : List ℕ} → Goes o cs sent → marks sent ≡ marks cs
-  goes-marks Goes.End = refl
-  goes-marks (Goes.Alone h) = rw (goes-marks h)
-  goes-marks (Goes.Led e h) = omega (arith, ap markAt (kind-shift Letters), goes-marks h)
-  goes-marks (Goes.Spaced e on h) = omega (arith, ap markAt (kind-shift Letters), goes-marks h)
-  goes-marks (Goes.Returned e on h) = omega (arith, ap markAt (kind-shift Letters), goes-marks h)
+  goes-marks : {cs sent : List ℕ} → GoesOut o cs sent → marks sent ≡ marks cs
+  goes-marks GoesOut.End = refl
+  goes-marks (GoesOut.Alone h) = rw (goes-marks h)
+  goes-marks (GoesOut.Led e h) = omega (arith, ap markAt (kind-shift Letters), goes-marks h)
+  goes-marks (GoesOut.Spaced e on h) = omega (arith, ap markAt (kind-shift Letters), goes-marks h)
+  goes-marks (GoesOut.Returned e on h) = omega (arith, ap markAt (kind-shift Letters), goes-marks h)
 
-  goes-length : {cs sent : List ℕ} → Goes o cs sent → length cs ≤ length sent
-  goes-length Goes.End = omega arith
-  goes-length (Goes.Alone h) = omega (arith, goes-length h)
-  goes-length (Goes.Led e h) = omega (arith, goes-length h)
-  goes-length (Goes.Spaced e on h) = omega (arith, goes-length h)
-  goes-length (Goes.Returned e on h) = omega (arith, goes-length h)
+  goes-length : {cs sent : List ℕ} → GoesOut o cs sent → length cs ≤ length sent
+  goes-length GoesOut.End = omega arith
+  goes-length (GoesOut.Alone h) = omega (arith, goes-length h)
+  goes-length (GoesOut.Led e h) = omega (arith, goes-length h)
+  goes-length (GoesOut.Spaced e on h) = omega (arith, goes-length h)
+  goes-length (GoesOut.Returned e on h) = omega (arith, goes-length h)
 
   module _ (three : marks (untilZero (o .string)) ≡ 3) (five : length (untilZero (o .string)) ≡ 5) where
     own-count : (p : Printer) (xs : List Stretch) → Endings o xs → length (ownPrints p xs) + 3 * endingsIn xs ≡ marks (codesOf xs)
@@ -74,7 +74,7 @@ module _ (o : Settings) where
         rest : List ℕ
         rest = ownPrints (hears p (x .codes)) xs
 
-        go : (b : Bool) → (b ≡ true → (o .endings ≡ true) × Goes o (untilZero (o .string)) (x .codes)) → length rest + 3 * endingsIn xs ≡ marks (codesOf xs)
+        go : (b : Bool) → (b ≡ true → (o .endings ≡ true) × GoesOut o (untilZero (o .string)) (x .codes)) → length rest + 3 * endingsIn xs ≡ marks (codesOf xs)
             → length (cond b [] (charactersOf (sheet p (x .codes))) ++ rest) + 3 * (cond b 1 0 + endingsIn xs) ≡ marks (x .codes ++ codesOf xs)
         go true e t = omega (arith, t, three, marks-append (x .codes) (codesOf xs), goes-marks (e refl .1))
         go false e t = omega (arith, t, marks-append (x .codes) (codesOf xs), marked p (x .codes), length-append (charactersOf (sheet p (x .codes))) rest)
@@ -83,7 +83,7 @@ module _ (o : Settings) where
     code-count [] h = omega arith
     code-count (x ∷ xs) h = go (x .ending) (h .0) (code-count xs (h .1))
       where
-        go : (b : Bool) → (b ≡ true → (o .endings ≡ true) × Goes o (untilZero (o .string)) (x .codes)) → 5 * endingsIn xs ≤ length (codesOf xs)
+        go : (b : Bool) → (b ≡ true → (o .endings ≡ true) × GoesOut o (untilZero (o .string)) (x .codes)) → 5 * endingsIn xs ≤ length (codesOf xs)
             → 5 * (cond b 1 0 + endingsIn xs) ≤ length (x .codes ++ codesOf xs)
         go true e t = omega (arith, t, five, length-append (x .codes) (codesOf xs), goes-length (e refl .1))
         go false e t = omega (arith, t, length-append (x .codes) (codesOf xs))
@@ -123,6 +123,6 @@ module _ (o : Settings) (string : o .string ≡ factory .string) (p : Printer) w
   ended-prints on = record {
     stretches = record { ending = true; codes = 8 ∷ 8 ∷ 2 ∷ 31 ∷ 31 ∷ [] } ∷ record { ending = false; codes = 15 ∷ [] } ∷ [];
     whole = refl;
-    endings = (λ e. (on, rw string (Goes.Alone (Goes.Alone (Goes.Alone (Goes.Alone (Goes.Alone Goes.End)))))), (λ e. absurd (false≢true e), tt));
+    endings = (λ e. (on, rw string (GoesOut.Alone (GoesOut.Alone (GoesOut.Alone (GoesOut.Alone (GoesOut.Alone GoesOut.End)))))), (λ e. absurd (false≢true e), tt));
     own = refl;
   }

@@ -37,18 +37,18 @@ abbrev pub Next : (ℕ → Type 0) → List ℕ → Type 0
 Next P [] = ⊥
 Next P (x ∷ rest) = P x
 
--- when the answer with a number stands, of the bytes taken and the rest
-abbrev pub Stands : Stream → State → ℕ → ℕ → List ℕ → List ℕ → ℕ → Type 0
+-- the condition of the answer with a number, of the bytes taken and the rest
+abbrev pub Condition : Stream → State → ℕ → ℕ → List ℕ → List ℕ → ℕ → Type 0
 -- 0: all bytes are taken
-Stands t s a b taken rest zero = (sound s ≡ true) × (rest ≡ [])
+Condition t s a b taken rest zero = (sound s ≡ true) × (rest ≡ [])
 -- 1: the next byte's whole output does not fit one of the buffers
-Stands t s a b taken rest (suc zero) = (sound s ≡ true) × Next (λ x. (noCode t s taken x ≡ false) × (hasRoom t s a b taken x ≡ false)) rest
+Condition t s a b taken rest (suc zero) = (sound s ≡ true) × Next (λ x. (noCode t s taken x ≡ false) × (hasRoom t s a b taken x ≡ false)) rest
 -- 2: the next byte of a code stream is over 31; room is not looked at
-Stands t s a b taken rest (suc (suc zero)) = (sound s ≡ true) × Next (λ x. noCode t s taken x ≡ true) rest
+Condition t s a b taken rest (suc (suc zero)) = (sound s ≡ true) × Next (λ x. noCode t s taken x ≡ true) rest
 -- 3: the state handed in is not sound
-Stands t s a b taken rest (suc (suc (suc zero))) = sound s ≡ false
+Condition t s a b taken rest (suc (suc (suc zero))) = sound s ≡ false
 -- there is no other
-Stands t s a b taken rest (suc (suc (suc (suc n)))) = ⊥
+Condition t s a b taken rest (suc (suc (suc (suc n)))) = ⊥
 
 -- the input is split into bytes taken and the rest, and the answer is the one for that split
 pub record Splits (t : Stream) (s : State) (xs : List ℕ) (a b w : ℕ) (taken rest : List ℕ) : Type 0 where
@@ -57,8 +57,8 @@ pub record Splits (t : Stream) (s : State) (xs : List ℕ) (a b w : ℕ) (taken 
   pub each : (before : List ℕ) (x : ℕ) (others : List ℕ) → taken ≡ before ++ (x ∷ others) → Goes t s a b before x
   -- from a state that is not sound nothing is taken
   pub nothing : sound s ≡ false → taken ≡ []
-  -- each number is the answer exactly when it stands
-  pub answer : (n : ℕ) → Exactly (w ≡ n) (Stands t s a b taken rest n)
+  -- each number is the answer exactly when its condition holds
+  pub answer : (n : ℕ) → Exactly (w ≡ n) (Condition t s a b taken rest n)
 
 -- what a call gives: everything follows the bytes taken
 pub record Ended (t : Stream) (s : State) (xs one two : List ℕ) (r : Result) : Type 0 where

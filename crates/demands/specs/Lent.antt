@@ -1,4 +1,4 @@
--- Calls of any box, one after the other, each handed the state that the last one left.
+-- Calls one after the other: what each was given and what it gave, and what they took, sent and left together.
 use Prim.Native.Nat.{ℕ}
 use mathlib.Core.List.{List, [], _∷_, _++_}
 use lib.ListN.{take}
@@ -18,13 +18,14 @@ pub record Lent : Type 0 where
   pub one : List ℕ
   pub two : List ℕ
 
--- what it gives, whatever its answer
-abbrev pub result : Box → State → Lent → Result
-result box s g = box (g .stream) s (g .bytes) (g .one) (g .two)
+-- and what it gave, whatever its answer
+pub record Exchange : Type 0 where
+  pub lent : Lent
+  pub gave : Result
 
 -- the bytes that it counts as taken
-abbrev pub took : Box → State → Lent → List Event
-took box s g = events (g .stream) (take (result box s g .gives .taken) (g .bytes))
+abbrev pub took : Exchange → List Event
+took m = events (m .lent .stream) (take (m .gave .gives .taken) (m .lent .bytes))
 
 -- the codes that it wrote to the line buffer: a host and a TU call are lent it first, a line call is lent none
 abbrev pub sentBy : Stream → Result → List ℕ
@@ -32,18 +33,22 @@ sentBy Host r = take (r .gives .first) (r .first)
 sentBy Line r = []
 sentBy Tu r = take (r .gives .first) (r .first)
 
-abbrev pub sent : Box → State → Lent → List ℕ
-sent box s g = sentBy (g .stream) (result box s g)
-
 -- many calls: the bytes taken, the codes sent, and the state that the last one left
-abbrev pub tookAll : Box → State → List Lent → List Event
-tookAll box s [] = []
-tookAll box s (g ∷ gs) = took box s g ++ tookAll box (result box s g .gives .state) gs
+abbrev pub tookAll : List Exchange → List Event
+tookAll [] = []
+tookAll (m ∷ ms) = took m ++ tookAll ms
 
-abbrev pub sentAll : Box → State → List Lent → List ℕ
-sentAll box s [] = []
-sentAll box s (g ∷ gs) = sent box s g ++ sentAll box (result box s g .gives .state) gs
+abbrev pub sentAll : List Exchange → List ℕ
+sentAll [] = []
+sentAll (m ∷ ms) = sentBy (m .lent .stream) (m .gave) ++ sentAll ms
 
-abbrev pub left : Box → State → List Lent → State
-left box s [] = s
-left box s (g ∷ gs) = left box (result box s g .gives .state) gs
+abbrev pub left : State → List Exchange → State
+left s [] = s
+left s (m ∷ ms) = left (m .gave .gives .state) ms
+
+-- calls of a box, each handed the state that the last one left
+abbrev pub exchanges : Box → State → List Lent → List Exchange
+exchanges box s [] = []
+exchanges box s (g ∷ gs) =
+    let r = box (g .stream) s (g .bytes) (g .one) (g .two) in
+    record { lent = g; gave = r } ∷ exchanges box (r .gives .state) gs

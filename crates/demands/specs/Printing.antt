@@ -13,7 +13,7 @@ use Rattle.step.specs.State.{freshBox}
 use Rattle.step.specs.Step.{Event, run}
 use Rattle.demands.specs.Names.{Letters, Space, Return, Settings, Printer, Mark, State}
 use Rattle.demands.specs.Box.{Box}
-use Rattle.demands.specs.Lent.{lines, Lent, tookAll, sentAll, left}
+use Rattle.demands.specs.Lent.{lines, Lent, tookAll, sentAll, left, exchanges}
 use Rattle.demands.specs.Asks.{asks}
 use Rattle.demands.specs.Story.{Turn, turns, Scene, start, does, turned, Obedient}
 
@@ -30,17 +30,17 @@ codesOf (x ∷ xs) = x .codes ++ codesOf xs
 
 -- a string as it goes out, code by code: LTRS may stand before a code that depends on case, and after a space with 70 on or a
 -- return with 71 on
-pub data Goes (o : Settings) : List ℕ → List ℕ → Type 0 where
-  End : Goes o [] []
-  Alone : {c : ℕ} {cs sent : List ℕ} → Goes o cs sent → Goes o (c ∷ cs) (c ∷ sent)
-  Led : {c : ℕ} {cs sent : List ℕ} → dependent (kindOf c) ≡ true → Goes o cs sent → Goes o (c ∷ cs) (shift Letters ∷ c ∷ sent)
-  Spaced : {c : ℕ} {cs sent : List ℕ} → kindOf c ≡ Space → o .onspace ≡ true → Goes o cs sent → Goes o (c ∷ cs) (c ∷ shift Letters ∷ sent)
-  Returned : {c : ℕ} {cs sent : List ℕ} → kindOf c ≡ Return → o .onreturn ≡ true → Goes o cs sent → Goes o (c ∷ cs) (c ∷ shift Letters ∷ sent)
+pub data GoesOut (o : Settings) : List ℕ → List ℕ → Type 0 where
+  End : GoesOut o [] []
+  Alone : {c : ℕ} {cs sent : List ℕ} → GoesOut o cs sent → GoesOut o (c ∷ cs) (c ∷ sent)
+  Led : {c : ℕ} {cs sent : List ℕ} → dependent (kindOf c) ≡ true → GoesOut o cs sent → GoesOut o (c ∷ cs) (shift Letters ∷ c ∷ sent)
+  Spaced : {c : ℕ} {cs sent : List ℕ} → kindOf c ≡ Space → o .onspace ≡ true → GoesOut o cs sent → GoesOut o (c ∷ cs) (c ∷ shift Letters ∷ sent)
+  Returned : {c : ℕ} {cs sent : List ℕ} → kindOf c ≡ Return → o .onreturn ≡ true → GoesOut o cs sent → GoesOut o (c ∷ cs) (c ∷ shift Letters ∷ sent)
 
 -- each ending is string 90 up to its first 0, and there is one only with 49 on
 abbrev pub Endings : Settings → List Stretch → Type 0
 Endings o [] = Unit {0}
-Endings o (x ∷ xs) = (x .ending ≡ true → (o .endings ≡ true) × Goes o (untilZero (o .string)) (x .codes)) × Endings o xs
+Endings o (x ∷ xs) = (x .ending ≡ true → (o .endings ≡ true) × GoesOut o (untilZero (o .string)) (x .codes)) × Endings o xs
 
 abbrev pub charactersOf : List Mark → List ℕ
 charactersOf [] = []
@@ -86,4 +86,4 @@ pub record Prints (es : List Event) (sent : List ℕ) (last : State) : Type 0 wh
 
 -- Of any box: any calls from a fresh one, any bytes and buffers, each handed the last state, all answers included.
 abbrev pub Printing : Box → Type 0
-Printing box = (gs : List Lent) → Prints (tookAll box freshBox gs) (sentAll box freshBox gs) (left box freshBox gs)
+Printing box = (gs : List Lent) → let ms = exchanges box freshBox gs in Prints (tookAll ms) (sentAll ms) (left freshBox ms)

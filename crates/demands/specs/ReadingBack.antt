@@ -10,7 +10,7 @@ use Rattle.step.specs.Step.{step, Event, run}
 use Rattle.linebox.specs.Ends.{firstsOf}
 use Rattle.demands.specs.Names.{Out, Mode1, State, Stream, Host, Line, Tu}
 use Rattle.demands.specs.Box.{Box}
-use Rattle.demands.specs.Lent.{lines, Lent, tookAll, sentAll}
+use Rattle.demands.specs.Lent.{lines, Lent, tookAll, sentAll, exchanges}
 use Rattle.demands.specs.Asks.{textBytes}
 use Rattle.demands.specs.Connects.{connects}
 
@@ -68,4 +68,4 @@ ReadsBack start es sent =
 
 -- Of any box: any calls from any state, however the bytes were cut and whatever the buffers.
 abbrev pub ReadingBack : Box → Type 0
-ReadingBack box = (start : State) (gs : List Lent) → ReadsBack start (tookAll box start gs) (sentAll box start gs)
+ReadingBack box = (start : State) (gs : List Lent) → let ms = exchanges box start gs in ReadsBack start (tookAll ms) (sentAll ms)
