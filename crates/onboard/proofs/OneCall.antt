@@ -26,7 +26,7 @@ use Rattle.onboard.specs.OneCall.{Wire, PromisedBy, Promised, seen, OneC
 
 -- The spelling of a sound state is the spelling of just that state.
 
-spelt-back : (s : State) → sound s ≡ true → (spells (spelt s) ≡ true) × (stateOf (spelt s) ≡ s)
+pub spelt-back : (s : State) → sound s ≡ true → (spells (spelt s) ≡ true) × (stateOf (spelt s) ≡ s)
 spelt-back s h =
     let e = read-back s (both (formed s) _ h .0) in
     (ap (λ (x : Loaded). x .spelt) e, ap (λ (x : Loaded). x .state) e)

@@ -1,2 +1,4 @@
 pub mod Names
 pub mod OneCall
+pub mod Session
+pub mod Example

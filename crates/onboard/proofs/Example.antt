@@ -1,0 +1,44 @@
+-- The example is a session, call by call by computation, so the demands hold of it.
+-- Assumes nothing.
+use mathlib.Core.Path.{_≡_, refl}
+use mathlib.Core.List.{[], _∷_}
+use Rattle.code.specs.Rows.{rowAt}
+use Rattle.code.specs.Kinds.{kindOf}
+use Rattle.code.specs.Convert.{conversion}
+use Rattle.message.specs.Message.{digits}
+use Rattle.settings.specs.Table.{soundString, idOf}
+use Rattle.settings.specs.Command.{commanded}
+use Rattle.step.specs.State.{freshBox}
+use Rattle.spelling.specs.Spelling.{spells, spelt, stateOf}
+use Rattle.demands.specs.Lent.{sentAll}
+use Rattle.onboard.specs.OneCall.{Promised}
+use Rattle.onboard.specs.Session.{exchanges, Session, Demanded}
+use Rattle.onboard.specs.Example.{opened, short, again, dropped, calls}
+use Rattle.onboard.proofs.Session.{session-demanded}
+
+opened-promised : Promised opened
+unfolding spells spelt stateOf conversion kindOf rowAt digits soundString idOf commanded
+opened-promised = record { answer = refl; bytes = refl; told = refl; one = refl; two = refl }
+
+short-promised : Promised short
+unfolding spells spelt stateOf conversion kindOf rowAt digits soundString idOf commanded
+short-promised = record { answer = refl; bytes = refl; told = refl; one = refl; two = refl }
+
+again-promised : Promised again
+unfolding spells spelt stateOf conversion kindOf rowAt digits soundString idOf commanded
+again-promised = record { answer = refl; bytes = refl; told = refl; one = refl; two = refl }
+
+dropped-promised : Promised dropped
+unfolding spells spelt stateOf conversion kindOf rowAt digits soundString idOf commanded
+dropped-promised = (record { answer = refl; bytes = refl; told = refl; one = refl }, (refl, refl))
+
+pub example-session : Session (spelt freshBox) calls
+unfolding spelt
+example-session = ((refl, opened-promised), ((refl, short-promised), ((refl, again-promised), ((refl, dropped-promised), tt))))
+
+pub example-demanded : Demanded calls
+example-demanded = session-demanded calls example-session
+
+-- 31 16 16 21 27 23
+pub example-sent : sentAll (exchanges calls) ≡ 31 ∷ 16 ∷ 16 ∷ 21 ∷ 27 ∷ 23 ∷ []
+example-sent = refl

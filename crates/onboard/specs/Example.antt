@@ -1,0 +1,79 @@
+-- A session of calls for C, byte by byte: the log sheet's example in two calls, cut inside the text, and a TU call that mode 1 drops.
+use Prim.Native.Nat.{ℕ}
+use mathlib.Core.List.{List, [], _∷_, _++_}
+use lib.ListN.{replicate}
+use Rattle.demands.specs.Traces.{mode1}
+use Rattle.onboard.specs.Names.{Host, Tu}
+use Rattle.onboard.specs.OneCall.{Wire}
+
+-- the state's bytes with factory settings and nothing held: a mode, port and speed, and the case on record
+abbrev bytes : ℕ → ℕ → ℕ → ℕ → List ℕ
+bytes mode port speed case =
+    0 ∷ 72 ∷ 0 ∷ 0 ∷ 0 ∷ 0 ∷ 8 ∷ 8 ∷ 2 ∷ 31 ∷ 31 ∷ 0 ∷ 0 ∷ 0 ∷ mode ∷ port ∷ speed ∷ case ∷ 0 ∷ 0 ∷ 0 ∷ 1 ∷ 1 ∷ replicate 105 0
+
+-- CR LF `-.TC,1,2,1,60` CR LF
+abbrev connected : List ℕ
+connected = 13 ∷ 10 ∷ 45 ∷ 46 ∷ 84 ∷ 67 ∷ 44 ∷ 49 ∷ 44 ∷ 50 ∷ 44 ∷ 49 ∷ 44 ∷ 54 ∷ 48 ∷ 13 ∷ 10 ∷ []
+
+-- `/.TW,1,2,1,60`, CR, `TT`
+abbrev pub opened : Wire
+opened = record {
+  stream = Host;
+  state = bytes 11 0 0 0;
+  bytes = mode1 ++ 84 ∷ 84 ∷ [];
+  one = replicate 20 0;
+  two = replicate 20 0;
+  answer = 0;
+  after = bytes 1 1 60 1;
+  done = 16 ∷ 3 ∷ 17 ∷ [];
+  first = 31 ∷ 16 ∷ 16 ∷ replicate 17 0;
+  second = connected ++ replicate 3 0;
+}
+
+-- `Y1`, in a buffer of two places, which the figure does not fit
+abbrev pub short : Wire
+short = record {
+  stream = Host;
+  state = bytes 1 1 60 1;
+  bytes = 89 ∷ 49 ∷ [];
+  one = 0 ∷ 0 ∷ [];
+  two = [];
+  answer = 1;
+  after = bytes 1 1 60 1;
+  done = 1 ∷ 1 ∷ 0 ∷ [];
+  first = 21 ∷ 0 ∷ [];
+  second = [];
+}
+
+-- `1` again
+abbrev pub again : Wire
+again = record {
+  stream = Host;
+  state = bytes 1 1 60 1;
+  bytes = 49 ∷ [];
+  one = 0 ∷ 0 ∷ [];
+  two = [];
+  answer = 0;
+  after = bytes 1 1 60 2;
+  done = 1 ∷ 2 ∷ 0 ∷ [];
+  first = 27 ∷ 23 ∷ [];
+  second = [];
+}
+
+-- a code from the TU
+abbrev pub dropped : Wire
+dropped = record {
+  stream = Tu;
+  state = bytes 1 1 60 2;
+  bytes = 3 ∷ [];
+  one = 0 ∷ [];
+  two = [];
+  answer = 0;
+  after = bytes 1 1 60 2;
+  done = 1 ∷ 0 ∷ [];
+  first = 0 ∷ [];
+  second = [];
+}
+
+abbrev pub calls : List Wire
+calls = opened ∷ short ∷ again ∷ dropped ∷ []
