@@ -1,6 +1,6 @@
 -- The example meets every premise: obedience is tested code by code, and the test computes.
 -- Assumes nothing.
-use Prim.Native.Nat.{ℕ}
+use Prim.Native.Nat.{ℕ, suc}
 use mathlib.Core.Path.{_≡_, refl, ap, _∙_}
 use mathlib.Core.Bool.{Bool, true, false, cond, _&&_, false≢true}
 use mathlib.Core.List.{List, [], _∷_}
@@ -14,12 +14,12 @@ use Rattle.settings.specs.Command.{commanded}
 use Rattle.printer.specs.Printer.{hear, hears}
 use Rattle.agree.specs.Agrees.{ObeysAt, Obeys}
 use Rattle.step.specs.State.{freshBox}
-use Rattle.step.specs.Step.{step}
+use Rattle.step.specs.Step.{step, Event}
 use Rattle.demands.specs.Names.{Kind, Still, Space, Return, Shift, Char, Settings, Printer, State}
 use Rattle.demands.specs.Box.{ours}
 use Rattle.demands.specs.Lent.{tookAll, sentAll, exchanges}
 use Rattle.demands.specs.Connects.{connects}
-use Rattle.demands.specs.Story.{Turn, turns, Scene, start, does, turned, Obedient}
+use Rattle.demands.specs.Story.{Scene, start, does, turned, Obedient}
 use Rattle.demands.specs.Printing.{Holds}
 use Rattle.demands.specs.Whole.{ownOf, asksAll}
 use Rattle.demands.specs.Example.{calls, bytes, first, joining, codes, asked}
@@ -57,18 +57,18 @@ obeys : (o : Settings) (p : Printer) (cs : List ℕ) → obey o p cs ≡ true �
 obeys o p [] h = tt
 obeys o p (c ∷ cs) h = let t = both (obeyAt o p (kindOf c)) (obey o (hear p c) cs) h in (obeys-at o p (kindOf c) (t .0), obeys o (hear p c) cs (t .1))
 
-abbrev obeyAll : State → Printer → List Turn → Bool
-obeyAll s p [] = true
-obeyAll s p (t ∷ ts) =
-    let x = step (t .event .stream) s (t .event .byte) in
-    obey (s .settings) p (x .line) && obeyAll (x .state) (cond (connects s (t .event)) (t .joining) (hears p (x .line))) ts
+abbrev obeyAll : (ℕ → Printer) → ℕ → State → Printer → List Event → Bool
+obeyAll joining n s p [] = true
+obeyAll joining n s p (e ∷ es) =
+    let x = step (e .stream) s (e .byte) in
+    obey (s .settings) p (x .line) && obeyAll joining (suc n) (x .state) (cond (connects s e) (joining n) (hears p (x .line))) es
 
-obedient : (x : Scene) (ts : List Turn) → obeyAll (x .state) (x .printer) ts ≡ true → Obedient x ts
-obedient x [] h = tt
-obedient x (t ∷ ts) h =
-    let y = turned x t in
-    let q = both (obey (x .state .settings) (x .printer) (does x (t .event) .line)) (obeyAll (y .state) (y .printer) ts) h in
-    (obeys (x .state .settings) (x .printer) (does x (t .event) .line) (q .0), obedient y ts (q .1))
+obedient : (joining : ℕ → Printer) (n : ℕ) (x : Scene) (es : List Event) → obeyAll joining n (x .state) (x .printer) es ≡ true → Obedient joining n x es
+obedient joining n x [] h = tt
+obedient joining n x (e ∷ es) h =
+    let y = turned x e (joining n) in
+    let q = both (obey (x .state .settings) (x .printer) (does x e .line)) (obeyAll joining (suc n) (y .state) (y .printer) es) h in
+    (obeys (x .state .settings) (x .printer) (does x e .line) (q .0), obedient joining (suc n) y es (q .1))
 
 -- The example.
 
@@ -83,15 +83,15 @@ unfolding conversion kindOf rowAt digits soundString idOf commanded
 example-bytes = refl
 
 -- its printers are obedient
-example-test : obeyAll freshBox first (turns joining 0 bytes) ≡ true
+example-test : obeyAll joining 0 freshBox first bytes ≡ true
 unfolding conversion kindOf rowAt digits soundString idOf commanded
 example-test = refl
 
-pub example-obedient : Obedient (start first) (turns joining 0 (tookAll (exchanges ours freshBox calls)))
-example-obedient = rw example-bytes (obedient (start first) (turns joining 0 bytes) example-test)
+pub example-obedient : Obedient joining 0 (start first) (tookAll (exchanges ours freshBox calls))
+example-obedient = rw example-bytes (obedient joining 0 (start first) bytes example-test)
 
 -- so demand 3 holds of it
-pub example : Holds (start first) (turns joining 0 (tookAll (exchanges ours freshBox calls)))
+pub example : Holds joining 0 (start first) (tookAll (exchanges ours freshBox calls))
 example = ours-prints calls .holds first joining example-obedient
 
 -- and what is printed beside its two endings is what it asks for
@@ -99,5 +99,5 @@ pub example-asked : asksAll freshBox bytes ≡ asked
 unfolding conversion kindOf rowAt digits soundString idOf commanded
 example-asked = refl
 
-pub example-own : ownOf (start first) (turns joining 0 (tookAll (exchanges ours freshBox calls))) example ≡ asked
-example-own = own-prints joining (start first) 0 (tookAll (exchanges ours freshBox calls)) example ∙ ap (asksAll freshBox) example-bytes ∙ example-asked
+pub example-own : ownOf joining 0 (start first) (tookAll (exchanges ours freshBox calls)) example ≡ asked
+example-own = own-prints joining 0 (start first) (tookAll (exchanges ours freshBox calls)) example ∙ ap (asksAll freshBox) example-bytes ∙ example-asked

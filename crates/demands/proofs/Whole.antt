@@ -8,7 +8,7 @@ use Rattle.printer.specs.Printer.{sheet}
 use Rattle.step.specs.Step.{Event}
 use Rattle.demands.specs.Names.{Printer}
 use Rattle.demands.specs.Asks.{asks}
-use Rattle.demands.specs.Story.{turns, Scene, does, turned}
+use Rattle.demands.specs.Story.{Scene, does, turned}
 use Rattle.demands.specs.Printing.{charactersOf, Keeps, Holds}
 use Rattle.demands.specs.Whole.{ownOf, sheetOf, asksAll, Off}
 use Rattle.demands.proofs.Stretches.{characters-append, plain-printed}
@@ -17,16 +17,16 @@ use Rattle.demands.proofs.Stretches.{characters-append, plain-printed}
 pub plain-byte : (x : Scene) (e : Event) → Keeps x e → x .state .settings .endings ≡ false → charactersOf (sheet (x .printer) (does x e .line)) ≡ asks (x .state) e
 plain-byte x e h off = plain-printed (x .state .settings) off (x .printer) (does x e .line) (asks (x .state) e) (h .printed)
 
--- any story on which demand 3 holds, from any scene and with its bytes counted from any number
+-- bytes of which demand 3 holds, from any scene and counted from any number
 module _ (joining : ℕ → Printer) where
   -- 49 on, off or changing: what is printed beside endings is the list asked for
-  pub own-prints : (x : Scene) (n : ℕ) (es : List Event) (h : Holds x (turns joining n es)) → ownOf x (turns joining n es) h ≡ asksAll (x .state) es
-  own-prints x n [] h = refl
-  own-prints x n (e ∷ es) h = rw (h .0 .printed .own, own-prints (turned x (record { event = e; joining = joining n })) (suc n) es (h .1))
+  pub own-prints : (n : ℕ) (x : Scene) (es : List Event) (h : Holds joining n x es) → ownOf joining n x es h ≡ asksAll (x .state) es
+  own-prints n x [] h = refl
+  own-prints n x (e ∷ es) h = rw (h .0 .printed .own, own-prints (suc n) (turned x e (joining n)) es (h .1))
 
   -- with 49 off whenever a byte is taken, the list printed is the list asked for
-  pub plain-prints : (x : Scene) (n : ℕ) (es : List Event) → Holds x (turns joining n es) → Off (x .state) es → charactersOf (sheetOf x (turns joining n es)) ≡ asksAll (x .state) es
-  plain-prints x n [] h off = refl
-  plain-prints x n (e ∷ es) h off =
-      let y = turned x (record { event = e; joining = joining n }) in
-      rw (characters-append (sheet (x .printer) (does x e .line)) (sheetOf y (turns joining (suc n) es)), plain-byte x e (h .0) (off .0), plain-prints y (suc n) es (h .1) (off .1))
+  pub plain-prints : (n : ℕ) (x : Scene) (es : List Event) → Holds joining n x es → Off (x .state) es → charactersOf (sheetOf joining n x es) ≡ asksAll (x .state) es
+  plain-prints n x [] h off = refl
+  plain-prints n x (e ∷ es) h off =
+      let y = turned x e (joining n) in
+      rw (characters-append (sheet (x .printer) (does x e .line)) (sheetOf joining (suc n) y es), plain-byte x e (h .0) (off .0), plain-prints (suc n) y es (h .1) (off .1))

@@ -1,5 +1,5 @@
 -- Demand 3, the printer.
-use Prim.Native.Nat.{ℕ}
+use Prim.Native.Nat.{ℕ, suc}
 use mathlib.Core.Path.{_≡_}
 use mathlib.Core.Bool.{Bool, true, cond, _||_}
 use mathlib.Core.List.{List, [], _∷_, _++_}
@@ -15,7 +15,7 @@ use Rattle.demands.specs.Names.{Letters, Space, Return, Settings, Printe
 use Rattle.demands.specs.Box.{Box}
 use Rattle.demands.specs.Lent.{lines, Lent, tookAll, sentAll, left, exchanges}
 use Rattle.demands.specs.Asks.{asks}
-use Rattle.demands.specs.Story.{Turn, turns, Scene, start, does, turned, Obedient}
+use Rattle.demands.specs.Story.{Scene, start, does, turned, Obedient}
 
 -- What a byte sends, in stretches.
 
@@ -73,16 +73,16 @@ pub record Keeps (x : Scene) (e : Event) : Type 0 where
   pub margin : x .state .settings .endings ≡ true → Within (x .state .settings .limit) (x .returned) (x .printer) (does x e .line)
 
 -- at every moment
-abbrev pub Holds : Scene → List Turn → Type 0
-Holds x [] = Agrees (x .state .sender .held) (x .printer)
-Holds x (t ∷ ts) = Keeps x (t .event) × Holds (turned x t) ts
+abbrev pub Holds : (ℕ → Printer) → ℕ → Scene → List Event → Type 0
+Holds joining n x [] = Agrees (x .state .sender .held) (x .printer)
+Holds joining n x (e ∷ es) = Keeps x e × Holds joining (suc n) (turned x e (joining n)) es
 
--- Of bytes taken from a fresh box, the codes sent and the state left: both are what the bytes give one after the other, and so what the
--- printers hear; and it holds of any printer at first and any at each connection command that succeeds, if they are obedient.
+-- Of bytes taken from a fresh box, the codes sent and the state left: both are what the bytes give, so the printers hear those codes;
+-- and it holds of any printer at first and any at each connection command that succeeds, if they are obedient.
 pub record Prints (es : List Event) (sent : List ℕ) (last : State) : Type 0 where
   pub codes : sent ≡ lines freshBox es
   pub state : last ≡ run freshBox es
-  pub holds : (p : Printer) (joining : ℕ → Printer) → Obedient (start p) (turns joining 0 es) → Holds (start p) (turns joining 0 es)
+  pub holds : (p : Printer) (joining : ℕ → Printer) → Obedient joining 0 (start p) es → Holds joining 0 (start p) es
 
 -- Of any box: any calls from a fresh one, any bytes and buffers, each handed the last state, all answers included.
 abbrev pub Printing : Box → Type 0

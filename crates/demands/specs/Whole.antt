@@ -1,24 +1,24 @@
 -- What demand 3 comes to for all bytes together.
-use Prim.Native.Nat.{ℕ}
+use Prim.Native.Nat.{ℕ, suc}
 use mathlib.Core.Path.{_≡_}
 use mathlib.Core.Bool.{false}
 use mathlib.Core.List.{List, [], _∷_, _++_}
 use Rattle.printer.specs.Printer.{sheet}
 use Rattle.step.specs.Step.{step, Event}
-use Rattle.demands.specs.Names.{Mark, State}
+use Rattle.demands.specs.Names.{Printer, Mark, State}
 use Rattle.demands.specs.Asks.{asks}
-use Rattle.demands.specs.Story.{Turn, Scene, does, turned}
+use Rattle.demands.specs.Story.{Scene, does, turned}
 use Rattle.demands.specs.Printing.{ownPrints, Holds}
 
 -- all that is printed for the bytes' own
-abbrev pub ownOf : (x : Scene) (ts : List Turn) → Holds x ts → List ℕ
-ownOf x [] h = []
-ownOf x (t ∷ ts) h = ownPrints (x .printer) (h .0 .printed .stretches) ++ ownOf (turned x t) ts (h .1)
+abbrev pub ownOf : (joining : ℕ → Printer) (n : ℕ) (x : Scene) (es : List Event) → Holds joining n x es → List ℕ
+ownOf joining n x [] h = []
+ownOf joining n x (e ∷ es) h = ownPrints (x .printer) (h .0 .printed .stretches) ++ ownOf joining (suc n) (turned x e (joining n)) es (h .1)
 
 -- all that is printed
-abbrev pub sheetOf : Scene → List Turn → List Mark
-sheetOf x [] = []
-sheetOf x (t ∷ ts) = sheet (x .printer) (does x (t .event) .line) ++ sheetOf (turned x t) ts
+abbrev pub sheetOf : (ℕ → Printer) → ℕ → Scene → List Event → List Mark
+sheetOf joining n x [] = []
+sheetOf joining n x (e ∷ es) = sheet (x .printer) (does x e .line) ++ sheetOf joining (suc n) (turned x e (joining n)) es
 
 -- all that is asked for
 abbrev pub asksAll : State → List Event → List ℕ
