@@ -17,8 +17,8 @@ use Rattle.stop.specs.Names.verdict
 use Rattle.stop.specs.Watch.{shownBy, watch}
 use Rattle.stop.specs.Verdict.{numberOf, ownChar, own, landsChar, lands, strikeOf}
 use Rattle.stop.specs.Line.{plus, bare, inkOf, standAfter, strikeAt, strike, finalAt, final, standing, countOf, alone, tallyBy, tallyOf}
-use Rattle.stop.specs.Sheet.{feeds, take}
-use Rattle.stop.specs.Struck.{NoFeed, takes, watches, lineOf, landsAt, struckAt, standAt, standsAt, judged}
+use Rattle.stop.specs.Sheet.{feeds, sheetAfter}
+use Rattle.stop.specs.Struck.{NoFeed, sheetAfterAll, watches, lineOf, landsAt, struckAt, standAt, standsAt, judged}
 use Rattle.stop.specs.Fits.{FitsSpot, Fits}
 use Rattle.stop.proofs.Fits.{fits}
 use Rattle.stop.proofs.Struck.{single, single-lands, spoiled, marked, unmarked, twice, place-stands, strike-length}
@@ -417,9 +417,9 @@ pub bare-clean : Clean bare
 bare-clean = record { size = refl; clear = λ n h. getD-replicate 256 n 0 0 h; landed = refl; strays = refl }
 
 -- codes that do not feed stay on the line
-pub line-taken : (s : Sheet) (cs : List ℕ) → NoFeed cs → takes s cs ≡ record { watch = watches (s .watch) cs; line = lineOf (s .watch) (s .line) cs; total = s .total }
+pub line-taken : (s : Sheet) (cs : List ℕ) → NoFeed cs → sheetAfterAll s cs ≡ record { watch = watches (s .watch) cs; line = lineOf (s .watch) (s .line) cs; total = s .total }
 line-taken s [] h = refl
 line-taken s (c ∷ cs) h = rw (one-taken s c (h .0)) (line-taken (onLine s c) cs (h .1))
   where
-    one-taken : (s : Sheet) (c : ℕ) → feeds c ≡ false → take s c ≡ onLine s c
+    one-taken : (s : Sheet) (c : ℕ) → feeds c ≡ false → sheetAfter s c ≡ onLine s c
     one-taken s c e = rw e

@@ -26,12 +26,13 @@ abbrev pub totalAfter : Bool → Tally → Line → Tally
 totalAfter true t l = plusTally t (tallyOf l)
 totalAfter false t l = t
 
-abbrev pub take : Sheet → ℕ → Sheet
-take s c = record { watch = watch (s .watch) c; line = lineAfter (feeds c) (s .watch) (s .line) c; total = totalAfter (feeds c) (s .total) (s .line) }
+-- the sheet after a code
+abbrev pub sheetAfter : Sheet → ℕ → Sheet
+sheetAfter s c = record { watch = watch (s .watch) c; line = lineAfter (feeds c) (s .watch) (s .line) c; total = totalAfter (feeds c) (s .total) (s .line) }
 
 -- a code over 31 is none, and changes nothing
 abbrev pub heard : Bool → Sheet → ℕ → Heard
-heard true s c = record { answer = Taken; sheet = take s c }
+heard true s c = record { answer = Taken; sheet = sheetAfter s c }
 heard false s c = record { answer = NoCode; sheet = s }
 
 abbrev pub step : Sheet → ℕ → Heard
@@ -44,7 +45,7 @@ runBy false n s r = record { answer = NoCode; taken = n; sheet = s }
 
 abbrev pub runFrom : ℕ → Sheet → List ℕ → Run
 runFrom n s [] = record { answer = Taken; taken = n; sheet = s }
-runFrom n s (c ∷ cs) = runBy (ltb c 32) n s (runFrom (suc n) (take s c) cs)
+runFrom n s (c ∷ cs) = runBy (ltb c 32) n s (runFrom (suc n) (sheetAfter s c) cs)
 
 abbrev pub run : Sheet → List ℕ → Run
 run s cs = runFrom 0 s cs

@@ -9,7 +9,7 @@ use Rattle.stop.specs.Names.{Landing, Nowhere, There, Somewhere, Verdict
 use Rattle.stop.specs.Watch.{watch}
 use Rattle.stop.specs.Verdict.{numberOf, lands, own, strikeOf}
 use Rattle.stop.specs.Line.{standAfter, strike}
-use Rattle.stop.specs.Sheet.{feeds, take, judgement}
+use Rattle.stop.specs.Sheet.{feeds, sheetAfter, judgement}
 
 -- the line after codes none of which feeds
 abbrev pub lineOf : Watch → Line → List ℕ → Line
@@ -42,9 +42,9 @@ judged v w l [] = 0
 judged v w l (c ∷ cs) = cond (eqb (numberOf (judgement w l c .verdict)) v) 1 0 + judged v (watch w c) l cs
 
 -- the sheet and what is known after many codes
-abbrev pub takes : Sheet → List ℕ → Sheet
-takes s [] = s
-takes s (c ∷ cs) = takes (take s c) cs
+abbrev pub sheetAfterAll : Sheet → List ℕ → Sheet
+sheetAfterAll s [] = s
+sheetAfterAll s (c ∷ cs) = sheetAfterAll (sheetAfter s c) cs
 
 abbrev pub watches : Watch → List ℕ → Watch
 watches w [] = w

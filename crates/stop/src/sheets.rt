@@ -1,7 +1,7 @@
 // The sheet: a record's codes, taken one at a time and many at a time, and the judgement of each.
 ghost use mathlib.Core.Path.{_≡_};
 ghost use Rattle.stop.specs.Verdict.{answerOf};
-ghost use Rattle.stop.specs.Sheet.{start, feeds, take, step, run, totals, judgement};
+ghost use Rattle.stop.specs.Sheet.{start, feeds, sheetAfter, step, run, totals, judgement};
 use crate::Answer;
 use crate::Heard;
 use crate::Judgement;
@@ -54,8 +54,8 @@ pub fn feeds(c: u8) -> bool
 }
 
 // The sheet after a code.
-fn take(s: Sheet, c: u8) -> Sheet
-    ensures { λ r. ⌜ r ≡ take s c ⌝ }
+fn sheet_after(s: Sheet, c: u8) -> Sheet
+    ensures { λ r. ⌜ r ≡ sheetAfter s c ⌝ }
 {
     let watch = s.watch;
     let line = s.line;
@@ -82,7 +82,7 @@ pub fn step(s: Sheet, c: u8) -> Heard
     if c < 32 {
         Heard {
             answer: Answer::Taken,
-            sheet: take(s, c),
+            sheet: sheet_after(s, c),
         }
     } else {
         Heard {
@@ -107,7 +107,7 @@ pub fn run(first: Sheet, codes: &[u8]) -> Run
                 sheet: s,
             };
         }
-        s = take(s, c);
+        s = sheet_after(s, c);
         i += 1;
     }
     Run {

@@ -11,14 +11,14 @@ use denote.Ref.{now}
 use borrow.Author.Needs.{needs}
 use borrow.Author.Tests.{lt-ltb, le-ltb}
 use Rattle.stop.specs.Names.{Sheet, Taken, NoCode, Run}
-use Rattle.stop.specs.Sheet.{take, runFrom}
+use Rattle.stop.specs.Sheet.{sheetAfter, runFrom}
 use Rattle.stop.proofs.sheets.run.Statement.{statement}
 use Rattle.stop.proofs.sheets.run.Tie as tie
 
 abbrev result : ℕ → Sheet → Run
 result n s = record { answer = NoCode; taken = n; sheet = s }
 
-turn : (s : Sheet) (codes : List ℕ) (i : ℕ) → i < length codes → getD codes i 0 < 32 → (t : Sheet) → t ≡ take s (getD codes i 0) → runFrom i s (drop i codes) ≡ runFrom (i + 1) t (drop (i + 1) codes)
+turn : (s : Sheet) (codes : List ℕ) (i : ℕ) → i < length codes → getD codes i 0 < 32 → (t : Sheet) → t ≡ sheetAfter s (getD codes i 0) → runFrom i s (drop i codes) ≡ runFrom (i + 1) t (drop (i + 1) codes)
 turn s codes i h l t e = rw (drop-cons codes i 0 h, lt-ltb (getD codes i 0) 32 l, add-one, e)
 
 ends : (s : Sheet) (codes : List ℕ) (i : ℕ) → i < length codes → 32 ≤ getD codes i 0 → runFrom i s (drop i codes) ≡ result i s
@@ -46,8 +46,8 @@ returns c =
     let h : l .i < length codes = omega arith in
     sym (l .inv .1 ∙ ends (l .s) codes (l .i) h (c .if1 .taken))
 
-take-requires : tie.Need-take-requires Inv-loop μ-loop
-take-requires c κs = search needs
+sheet-after-requires : tie.Need-sheet-after-requires Inv-loop μ-loop
+sheet-after-requires c κs = search needs
 
 add-i : tie.Need-add-i Inv-loop μ-loop
 add-i c = search needs
@@ -60,7 +60,7 @@ loop-again c =
     let l = c .before .before .before .before .loop in
     let codes = now (c .before .before .before .before .before .before .args .codes) in
     let h : l .i < length codes = omega arith in
-    (omega arith, l .inv .1 ∙ turn (l .s) codes (l .i) h (c .before .if1 .left) _ (c .take .ensures))
+    (omega arith, l .inv .1 ∙ turn (l .s) codes (l .i) h (c .before .if1 .left) _ (c .sheet-after .ensures))
 
 returns-2 : tie.Need-returns-2 Inv-loop μ-loop
 returns-2 c =
@@ -77,7 +77,7 @@ run-spec =
     loop-holds
     shared-slice-read-c
     returns
-    take-requires
+    sheet-after-requires
     add-i
     loop-less
     loop-again

@@ -1,8 +1,8 @@
--- `stop::sheets::take` meets its contract: a line feed ends the line, and anything else may strike on it.
+-- `stop::sheets::sheet_after` meets its contract: a line feed ends the line, and anything else may strike on it.
 -- Assumes nothing.
 use borrow.Author.Needs.{needs}
-use Rattle.stop.proofs.sheets.take.Statement.{statement}
-use Rattle.stop.proofs.sheets.take.Tie as tie
+use Rattle.stop.proofs.sheets.sheet_after.Statement.{statement}
+use Rattle.stop.proofs.sheets.sheet_after.Tie as tie
 
 feeds-requires : tie.Need-feeds-requires
 feeds-requires c κs = search needs
@@ -34,8 +34,8 @@ returns c = simp (← c .before .before .before .before .before .feeds .ensures,
 returns-2 : tie.Need-returns-2
 returns-2 c = simp (← c .before .before .before .before .feeds .ensures, c .before .before .before .if1 .left, c .strike .ensures, c .before .strike-of .ensures, c .before .before .watch3 .ensures)
 
-pub take-spec : {M : Type 1} → statement M
-take-spec =
+pub sheet-after-spec : {M : Type 1} → statement M
+sheet-after-spec =
     tie.close
     (tie.spec
     feeds-requires
