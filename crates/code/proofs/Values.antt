@@ -11,7 +11,7 @@ use Rattle.code.specs.declared.Conversion.{Conversion}
 use Rattle.code.specs.declared.Conversion.the-variants.{Nothing, Free, Cased}
 use Rattle.code.specs.Rows.{rowAt}
 use Rattle.code.specs.Kinds.{kindOf, dependent}
-use Rattle.code.specs.Convert.{capital, conversion, markOf, codeOf, caseOf}
+use Rattle.code.specs.Convert.{capital, conversion, markOf, codeOf, caseOf, markAt, codeAt}
 
 -- The paper's mark and code tell conversions apart.
 
@@ -68,6 +68,20 @@ high-all = tt
 pub high : (b : ℕ) → (ltb b 128) ≡ false → b < 256 → conversion b ≡ Nothing
 unfolding high-test
 high b h l = same-eq (conversion b) Nothing (rw h at (below high-test 256 high-all b l))
+
+-- The paper's mark and code of a byte are those by the rows.
+
+-- two functions that agree on every byte
+agreed : (f g : ℕ → ℕ) → T (upto (λ b. eqb (f b) (g b)) 256) → (b : ℕ) → b < 256 → f b ≡ g b
+agreed f g t b l = eqb→eq (f b) (g b) (below (λ x. eqb (f x) (g x)) 256 t b l)
+
+pub mark-right : (b : ℕ) → b < 256 → markOf (conversion b) ≡ markAt b
+unfolding conversion kindOf rowAt markAt
+mark-right = agreed (λ b. markOf (conversion b)) markAt tt
+
+pub code-right : (b : ℕ) → b < 256 → codeOf (conversion b) ≡ codeAt b
+unfolding conversion kindOf rowAt codeAt
+code-right = agreed (λ b. codeOf (conversion b)) codeAt tt
 
 -- Converting a value that is no shift request, and reading the code in its wanted case.
 

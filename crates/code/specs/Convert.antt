@@ -7,7 +7,7 @@ use Rattle.code.specs.declared.Case.{Case}
 use Rattle.code.specs.declared.Case.the-variants.{Letters, Figures}
 use Rattle.code.specs.declared.Conversion.{Conversion}
 use Rattle.code.specs.declared.Conversion.the-variants.{Nothing, Free, Cased}
-use Rattle.code.specs.Rows.{letters, figures}
+use Rattle.code.specs.Rows.{letters, figures, stands}
 use Rattle.code.specs.Kinds.{kindOf, dependent}
 
 -- small letters convert as capitals
@@ -45,3 +45,18 @@ abbrev pub caseOf : Conversion → Case
 caseOf Nothing = Letters
 caseOf (Free c) = Letters
 caseOf (Cased case c) = case
+
+-- The same by the rows alone: a character of both rows does not depend on case.
+
+-- N where the byte's capital stands in both rows, L or F where in one of them, - where in none
+unfoldable pub markAt : ℕ → ℕ
+markAt b = cond (stands letters (capital b)) (cond (stands figures (capital b)) 78 76) (cond (stands figures (capital b)) 70 45)
+
+-- where a number first stands in a list
+abbrev pub placeIn : List ℕ → ℕ → ℕ
+placeIn [] x = 0
+placeIn (y ∷ ys) x = cond (eqb y x) 0 (suc (placeIn ys x))
+
+-- the place where it stands, 0 where there is none
+unfoldable pub codeAt : ℕ → ℕ
+codeAt b = cond (stands letters (capital b)) (placeIn letters (capital b)) (cond (stands figures (capital b)) (placeIn figures (capital b)) 0)

@@ -1,6 +1,8 @@
 -- The two rows of thirty-two characters, code 0 first. They decide both conversions.
 use Prim.Native.Nat.{ℕ}
+use mathlib.Core.Bool.{Bool, false, _||_}
 use mathlib.Core.List.{List, [], _∷_}
+use lib.Dec.{eqb}
 use lib.ListN.{getD}
 use Rattle.code.specs.declared.Case.{Case}
 use Rattle.code.specs.declared.Case.the-variants.{Letters, Figures}
@@ -14,6 +16,11 @@ letters =
 abbrev pub figures : List ℕ
 figures =
     0 ∷ 51 ∷ 10 ∷ 45 ∷ 32 ∷ 7 ∷ 56 ∷ 55 ∷ 13 ∷ 36 ∷ 52 ∷ 39 ∷ 44 ∷ 33 ∷ 58 ∷ 40 ∷ 53 ∷ 34 ∷ 41 ∷ 50 ∷ 35 ∷ 54 ∷ 48 ∷ 49 ∷ 57 ∷ 63 ∷ 38 ∷ 14 ∷ 46 ∷ 47 ∷ 59 ∷ 15 ∷ []
+
+-- a number stands in a list
+abbrev pub stands : List ℕ → ℕ → Bool
+stands [] x = false
+stands (y ∷ ys) x = eqb y x || stands ys x
 
 abbrev pub rows : List (List ℕ)
 rows = letters ∷ figures ∷ []

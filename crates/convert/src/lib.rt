@@ -2,8 +2,7 @@
 ghost use mathlib.Core.Path.{_≡_};
 ghost use Prim.Native.Nat.{_<_};
 ghost use lib.ListN.{getD};
-ghost use Rattle.code.specs.Convert.{conversion};
-ghost use Rattle.convert.specs.Entry.{Tabled, unpacked};
+ghost use Rattle.convert.specs.Entry.{Converts, Tabled, unpacked};
 use code::Case;
 use code::Conversion;
 
@@ -178,7 +177,7 @@ pub fn look_up(table: &[u8], b: u8) -> Conversion
 
 // What a host byte is on the line.
 pub fn convert(b: u8) -> Conversion
-    ensures { λ r. ⌜ r ≡ conversion b ⌝ }
+    ensures { λ r. ⌜ Converts b r ⌝ }
 {
     let t = table();
     look_up(&t, b)

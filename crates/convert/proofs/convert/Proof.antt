@@ -1,7 +1,13 @@
--- `convert::convert` meets its contract: the entry that it looks up is the table's.
+-- `convert::convert` meets its contract: the entry that it looks up is the table's, and what that stands for has the paper's mark and
+-- code.
 -- Assumes nothing.
+use Prim.Native.Nat.{ℕ, _<_}
 use mathlib.Core.Path.{_≡_, _∙_}
 use borrow.Author.Needs.{needs}
+use Rattle.code.specs.declared.Conversion.{Conversion}
+use Rattle.code.specs.Convert.{conversion}
+use Rattle.code.proofs.Values.{mark-right, code-right}
+use Rattle.convert.specs.Entry.{Converts}
 use Rattle.convert.proofs.convert.Statement.{statement}
 use Rattle.convert.proofs.convert.Tie as tie
 
@@ -14,8 +20,14 @@ slice-aggregate-look-up c = search needs
 look-up-requires : tie.Need-look-up-requires
 look-up-requires c κs = search needs
 
+converts : (b : ℕ) (r : Conversion) → b < 256 → r ≡ conversion b → Converts b r
+converts b r l e = record { gives = e; mark = rw e (mark-right b l); code = rw e (code-right b l) }
+
 returns : tie.Need-returns
-returns c = c .look-up .ensures ∙ c .before .before .table .ensures .entry (c .before .before .before .args .b) (search needs)
+returns c =
+    let b = c .before .before .before .args .b in
+    let l : b < 256 = search needs in
+    converts b _ l (c .look-up .ensures ∙ c .before .before .table .ensures .entry b l)
 
 pub convert-spec : {M : Type 1} → statement M
 convert-spec = tie.close (tie.spec table-requires slice-aggregate-look-up look-up-requires returns)

@@ -18,7 +18,7 @@ byte-at-requires : tie.Need-byte-at-requires
 byte-at-requires c κs = search needs
 
 returns : tie.Need-returns
-returns c = simp (← c .before .before .before .before .hex-at .ensures, ← c .before .before .before .convert .ensures, ← c .before .before .mark-of .ensures, ← c .before .byte-at .ensures, ne-eqb _ _ (c .if1 .taken))
+returns c = simp (← c .before .before .before .before .hex-at .ensures, ← c .before .before .before .convert .ensures .gives, ← c .before .before .mark-of .ensures, ← c .before .byte-at .ensures, ne-eqb _ _ (c .if1 .taken))
 
 code-of-requires : tie.Need-code-of-requires
 code-of-requires c κs = search needs
@@ -27,7 +27,7 @@ hex-at-requires-2 : tie.Need-hex-at-requires-2
 hex-at-requires-2 c κs = search needs
 
 returns-2 : tie.Need-returns-2
-returns-2 c = simp (← c .before .before .before .before .before .before .hex-at .ensures, ← c .before .before .before .before .before .convert .ensures, ← c .before .before .before .before .mark-of .ensures, ← c .before .before .before .byte-at .ensures, eq-eqb _ _ (c .before .before .if1 .left), ← c .before .code-of .ensures, ← c .hex-at2 .ensures)
+returns-2 c = simp (← c .before .before .before .before .before .before .hex-at .ensures, ← c .before .before .before .before .before .convert .ensures .gives, ← c .before .before .before .before .mark-of .ensures, ← c .before .before .before .byte-at .ensures, eq-eqb _ _ (c .before .before .if1 .left), ← c .before .code-of .ensures, ← c .hex-at2 .ensures)
 
 pub ascii-holds-spec : {M : Type 1} → statement M
 ascii-holds-spec =
