@@ -49,3 +49,12 @@ moves case Space = true
 moves case Return = false
 moves case (Shift to) = false
 moves case (Char bell) = strikes bell case
+
+-- the codes of each kind: BLANK and LF, space, CR, the two shifts, the code whose figure is BELL, the other 25 that depend on case
+abbrev pub codesOf : Kind → List ℕ
+codesOf Still = 0 ∷ 2 ∷ []
+codesOf Space = 4 ∷ []
+codesOf Return = 8 ∷ []
+codesOf (Shift to) = shift to ∷ []
+codesOf (Char true) = 5 ∷ []
+codesOf (Char false) = 1 ∷ 3 ∷ 6 ∷ 7 ∷ 9 ∷ 10 ∷ 11 ∷ 12 ∷ 13 ∷ 14 ∷ 15 ∷ 16 ∷ 17 ∷ 18 ∷ 19 ∷ 20 ∷ 21 ∷ 22 ∷ 23 ∷ 24 ∷ 25 ∷ 26 ∷ 28 ∷ 29 ∷ 30 ∷ []
