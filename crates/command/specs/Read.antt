@@ -1,5 +1,6 @@
 -- What one host byte does to the command reader, and what it makes.
 use Prim.Native.Nat.{ℕ, _+_, _*_, _-_, _%_, min}
+use mathlib.Core.Path.{_≡_}
 use mathlib.Core.Bool.{Bool, true, false, cond, _&&_, _||_}
 use mathlib.Core.List.{List, [], _∷_}
 use lib.Dec.{eqb, leb}
@@ -151,6 +152,29 @@ textOf Nothing = []
 textOf (One b) = b ∷ []
 textOf (Two b) = 47 ∷ b ∷ []
 textOf (Finished v count) = []
+
+-- The same by the stage alone.
+
+-- with nothing held: nothing for a `/`, or else the byte
+abbrev pub textAfresh : ℕ → List ℕ
+textAfresh b = cond (eqb b 47) [] (b ∷ [])
+
+-- nothing for the LF of a command's CR LF; after a held `/`, nothing for `.`, or else that `/` and what the byte is afresh; in a
+-- command nothing
+abbrev pub textAt : Stage → ℕ → List ℕ
+textAt Text b = textAfresh b
+textAt Swallow b = cond (eqb b 10) [] (textAfresh b)
+textAt Held b = cond (eqb b 46) [] (47 ∷ textAfresh b)
+textAt Begun b = []
+textAt (Lettered small t) b = []
+textAt (Typed v) b = []
+textAt (Fields v f last) b = []
+textAt Discard b = []
+
+-- one byte, and its text by the stage
+pub record ByteRead (r : Reader) (b : ℕ) (s : Step) : Type 0 where
+  pub gives : s ≡ read r b
+  pub text : textOf (s .out) ≡ textAt (r .stage) b
 
 -- a byte that made nothing
 abbrev pub isNothing : Out → Bool

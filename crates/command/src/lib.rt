@@ -3,7 +3,7 @@ ghost use mathlib.Core.Path.{_≡_};
 ghost use mathlib.Core.Bool.{true};
 ghost use Prim.Native.Nat.{_<_};
 ghost use lib.ListN.{getD, set};
-ghost use Rattle.command.specs.Read.{added, afresh, alike, at, digit, ends, ex, field, finish, first, grown, idle, inField, inside, isDigit, isLetter, isNothing, opened, over, read, released, second, soundStage, swallowed, typed, verb, within};
+ghost use Rattle.command.specs.Read.{added, afresh, alike, at, digit, ends, ex, field, finish, first, grown, idle, inField, inside, isDigit, isLetter, isNothing, opened, over, ByteRead, released, second, soundStage, swallowed, typed, verb, within};
 ghost use Rattle.command.specs.Reads.{running};
 
 // A command's type: TW, TR or any other two letters.
@@ -362,7 +362,7 @@ impl Reader {
 
     // One byte.
     pub fn read(self, b: u8) -> Step
-        ensures { λ r. ⌜ r ≡ read self b ⌝ }
+        ensures { λ r. ⌜ ByteRead self b r ⌝ }
     {
         let stage = self.stage;
         match stage {

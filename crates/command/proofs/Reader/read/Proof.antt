@@ -1,6 +1,7 @@
--- `command::Reader::read` meets its contract: each stage has its case of `readAt`.
+-- `command::Reader::read` meets its contract: each stage has its case of `readAt`, and what that reads has the stage's text.
 -- Assumes nothing.
 use borrow.Author.Needs.{needs}
+use Rattle.command.proofs.Texts.{reads}
 use Rattle.command.proofs.Reader.read.Statement.{statement}
 use Rattle.command.proofs.Reader.read.Tie as tie
 
@@ -71,28 +72,28 @@ inside-requires-5 : tie.Need-inside-requires-5
 inside-requires-5 c κs = search needs
 
 returns : tie.Need-returns
-returns c = simp (c .before .enum-told .given .1) (c .afresh .ensures)
+returns c = reads (simp (c .before .enum-told .given .1) (c .afresh .ensures))
 
 returns-2 : tie.Need-returns-2
-returns-2 c = simp (c .before .enum-told2 .given .1) (c .swallowed .ensures)
+returns-2 c = reads (simp (c .before .enum-told2 .given .1) (c .swallowed .ensures))
 
 returns-3 : tie.Need-returns-3
-returns-3 c = simp (c .before .enum-told3 .given .1) (c .released .ensures)
+returns-3 c = reads (simp (c .before .enum-told3 .given .1) (c .released .ensures))
 
 returns-4 : tie.Need-returns-4
-returns-4 c = simp (c .before .before .enum-told4 .given .1) (rw (c .before .first .ensures) at (c .inside .ensures))
+returns-4 c = reads (simp (c .before .before .enum-told4 .given .1) (rw (c .before .first .ensures) at (c .inside .ensures)))
 
 returns-5 : tie.Need-returns-5
-returns-5 c = simp (c .before .before .before .stage .given .1) (rw (c .before .second .ensures) at (c .inside2 .ensures))
+returns-5 c = reads (simp (c .before .before .before .stage .given .1) (rw (c .before .second .ensures) at (c .inside2 .ensures)))
 
 returns-6 : tie.Need-returns-6
-returns-6 c = simp (c .before .before .before .stage2 .given .1) (rw (c .before .typed .ensures) at (c .inside3 .ensures))
+returns-6 c = reads (simp (c .before .before .before .stage2 .given .1) (rw (c .before .typed .ensures) at (c .inside3 .ensures)))
 
 returns-7 : tie.Need-returns-7
-returns-7 c = simp (c .before .before .before .before .before .stage3 .given .1) (rw (c .before .field .ensures, c .before .before .finish .ensures) at (c .inside4 .ensures))
+returns-7 c = reads (simp (c .before .before .before .before .before .stage3 .given .1) (rw (c .before .field .ensures, c .before .before .finish .ensures) at (c .inside4 .ensures)))
 
 returns-8 : tie.Need-returns-8
-returns-8 c = simp (c .before .before .enum-told5 .given .1) (rw (c .before .at .ensures) at (c .inside5 .ensures))
+returns-8 c = reads (simp (c .before .before .enum-told5 .given .1) (rw (c .before .at .ensures) at (c .inside5 .ensures)))
 
 pub read-spec : {M : Type 1} → statement M
 read-spec =

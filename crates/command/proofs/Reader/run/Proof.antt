@@ -36,7 +36,7 @@ returns c =
     let m = c .before .before .before .before .before in
     let l = m .loop in
     let bytes = now (m .before .before .args .bytes) in
-    let n = c .before .before .read .ensures in
+    let n = c .before .before .read .ensures .gives in
     let w = c .before .is-nothing in
     let e = sym (rw n at (w .ensures)) ∙ not-true (w .result) (c .if1 .taken) in
     rw n (sym (l .inv .1 ∙ run-stops (l .reader) bytes (l .taken) (c .before .before .before .before .loop-test .taken) e))
@@ -52,7 +52,7 @@ loop-again c =
     let m = c .before .before .before .before .before .before in
     let l = m .loop in
     let bytes = now (m .before .before .args .bytes) in
-    let n = c .before .before .before .read .ensures in
+    let n = c .before .before .before .read .ensures .gives in
     let w = c .before .before .is-nothing in
     let e = sym (rw n at (w .ensures)) ∙ not-false (w .result) (c .before .if1 .left) in
     (omega arith, rw n (l .inv .1 ∙ run-goes (l .reader) bytes (l .taken) (c .before .before .before .before .before .loop-test .taken) e))
