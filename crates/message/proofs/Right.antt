@@ -11,7 +11,7 @@ use native.Mathlib.Omega.{arith}
 use borrow.Author.Tests.{eqb-true, eqb-false}
 use lib.Dec.{eqb}
 use lib.ListN.{length-take, length, take, drop, drop-of-length-le, length-drop, length-append}
-use lib.Seq.{drop-nil, drop-cons}
+use lib.Seq.{drop-nil, drop-cons, length-take-le}
 use Rattle.message.specs.declared.Numbers.{Numbers}
 use Rattle.message.specs.declared.Numbers.the-variants.{Nothing, Bytes}
 use Rattle.message.specs.declared.Place.{Place}
@@ -168,3 +168,8 @@ locate-start s = refl
 -- the part that the finder hands back
 pub found-at : (s : List ℕ) (p : Place) → p ≡ located s → take (p .start + p .len - p .start) (drop (p .start) s) ≡ found s
 found-at s p e = rw (add-sub-cancel-left, e)
+
+pub found-long : (s : List ℕ) (p : Place) → p ≡ located s → p .start + p .len ≤ length s → length (found s) ≡ located s .len
+found-long s p e w =
+    let v : located s .start + located s .len ≤ length s = rw e at w in
+    length-take-le (located s .len) (drop (located s .start) s) (simp length-drop (omega arith))

@@ -5,7 +5,7 @@ ghost use lib.ListN.{length, drop};
 ghost use Rattle.message.specs.Message.{digits, numbers, framed};
 ghost use Rattle.message.specs.Made.{field, madeCount, Made, Put};
 ghost use Rattle.message.specs.Scan.{ended, whole, isDigit, more, scan, complete, prefix, numbersFrom, endsHere, messageAt};
-ghost use Rattle.message.specs.Located.{Located, found};
+ghost use Rattle.message.specs.Located.{Located, HandsBack};
 
 // How many of the numbers of a message are read: none, the id, or also the second, which says how many have to come yet. Over:
 // more came than it said.
@@ -332,7 +332,7 @@ pub fn locate(s: &[u8]) -> Place
 
 // That very stretch of the bytes, from the hyphen to the last digit of the earliest complete message; empty where there is none.
 pub fn find(s: &[u8]) -> &[u8]
-    ensures { λ r. ⌜ now r ≡ found (now (s .entry)) ⌝ }
+    ensures { λ r. ⌜ HandsBack (s .entry) r ⌝ }
 {
     let p = locate(s);
     let a = p.start;

@@ -1,7 +1,9 @@
--- The part from the place's start to its end is the stretch.
+-- `message::find` meets its contract: the part from the place's start to its end is the stretch, and begins there.
 -- Assumes nothing.
+use mathlib.Core.Path.{refl, ap, _∙_}
+use lib.ListN.{length}
 use borrow.Author.Needs.{needs}
-use Rattle.message.proofs.Right.{found-at}
+use Rattle.message.proofs.Right.{found-at, found-long}
 use Rattle.message.proofs.find.Statement.{statement}
 use Rattle.message.proofs.find.Tie as tie
 
@@ -21,7 +23,11 @@ part-result-end : tie.Need-part-result-end
 part-result-end c = search needs
 
 returns : tie.Need-returns
-returns c = let l = c .before .before .locate in found-at (c .before .before .before .before .args .s .now) (l .result) (l .ensures .computed)
+returns c =
+    let l = c .before .before .locate in
+    let s = c .before .before .before .before .args .s in
+    let e = found-at (s .now) (l .result) (l .ensures .computed) in
+    record { block = refl; place = rw (l .ensures .computed); long = ap length e ∙ found-long (s .now) (l .result) (l .ensures .computed) (l .ensures .within); bytes = e }
 
 pub find-spec : {M : Type 1} → statement M
 find-spec =
