@@ -27,12 +27,12 @@ fn print_codes(codes: &[u8]) -> bool {
     io::write_all(STDOUT_FILENO, front(&text, n))
 }
 
-// One call on the input from a place on, its codes printed.
-fn feed(t: Sheet, input: &[u8], from: usize) -> Fed {
+// One call on what is left of the input, its codes printed.
+fn feed(t: Sheet, rest: &[u8]) -> Fed {
     let mut line = io::large_buffer();
     let mut host = io::buffer();
     let state = t.state;
-    let r = linebox::calls::host(state, input, from, &mut line, &mut host);
+    let r = linebox::calls::host(state, rest, 0, &mut line, &mut host);
     let next = r.state;
     Fed {
         taken: r.taken,
@@ -50,12 +50,12 @@ struct Fed {
     sheet: Sheet,
 }
 
-// The whole input, call after call, each going on at the first byte not taken.
+// The whole input, call after call: each is handed the rest from the first byte not taken.
 fn feed_all(start: Sheet, input: &[u8]) -> Sheet {
     let mut t = start;
     let mut from = 0;
     while from < input.len() {
-        let r = feed(t, input, from);
+        let r = feed(t, &input[from..]);
         let taken = r.taken;
         t = r.sheet;
         if taken == 0 {
@@ -146,7 +146,8 @@ fn print_end(host: u64) {
     io::write_all(STDOUT_FILENO, b"\n");
 }
 
-fn main() {
+// Prints the sheet of standard input.
+fn print_sheet() {
     io::write_all(STDOUT_FILENO, b"line");
     let t = read_all(Sheet {
         state: step::soundness::fresh(),
@@ -165,5 +166,31 @@ fn main() {
         More::NotWritten => {
             os::fail(b"standard output");
         }
+    }
+}
+
+// Names an argument, which the program does not take, and says how it is used.
+fn print_bad_argument() {
+    let mut buf = [0u8; 64];
+    let n = os::arg(1, &mut buf);
+    let is_whole = os::errno() == 0;
+    io::write_all(STDOUT_FILENO, b"logsheet: argument 1, `");
+    if is_whole {
+        io::write_all(STDOUT_FILENO, &buf[..n]);
+    } else {
+        io::write_all(STDOUT_FILENO, &buf);
+        io::write_all(STDOUT_FILENO, b"..");
+    }
+    io::write_all(
+        STDOUT_FILENO,
+        b"`: it takes no argument; use: ./logsheet < NIGHT\n",
+    );
+}
+
+fn main() {
+    if os::arg_count() < 2 {
+        print_sheet();
+    } else {
+        print_bad_argument();
     }
 }

@@ -1,4 +1,4 @@
--- `logsheet::feed_all` meets its contract. The invariant: the place is within the input.
+-- `logsheet::feed_all` meets its contract. The invariant: the first byte not taken is within the input.
 -- Assumes nothing.
 use Prim.Native.Nat.{_≤_, _<_, _+_, _-_}
 use lib.ListN.{length}
@@ -14,6 +14,15 @@ abbrev μ-loop : tie.MeasureT-loop
 
 loop-holds : tie.Need-loop-holds Inv-loop μ-loop
 loop-holds c = search needs
+
+sub-feed : tie.Need-sub-feed Inv-loop μ-loop
+sub-feed c = search needs
+
+part-feed-start : tie.Need-part-feed-start Inv-loop μ-loop
+part-feed-start c = search needs
+
+part-feed-end : tie.Need-part-feed-end Inv-loop μ-loop
+part-feed-end c = search needs
 
 feed-requires : tie.Need-feed-requires Inv-loop μ-loop
 feed-requires c κs = search needs
@@ -49,6 +58,9 @@ feed-all-spec =
     Inv-loop
     μ-loop
     loop-holds
+    sub-feed
+    part-feed-start
+    part-feed-end
     feed-requires
     returns
     sub-if2
