@@ -6,8 +6,7 @@ use mathlib.Core.Bool.{Bool, true, false, _&&_, false≢true}
 use mathlib.Core.List.{List, [], _∷_, _++_, append-nil}
 use native.Mathlib.Omega.{arith}
 use native.Mathlib.Nat.{zero-add, sub-zero}
-use borrow.Author.Tests.{ltb-false}
-use lib.Dec.{eqb, ltb}
+use lib.Dec.{eqb, leb}
 use Rattle.laws.specs.Written.{Filled}
 use Rattle.laws.proofs.Filled.{filled-none}
 use lib.ListN.{length, drop}
@@ -17,7 +16,7 @@ use Rattle.command.specs.Read.{read, readAt, afresh, at, idle}
 use Rattle.code.specs.Kinds.{kindOf}
 use Rattle.code.specs.Convert.{conversion}
 use Rattle.sender.specs.Item.{items, afterItems, wanted, wantedOf, incoming}
-use Rattle.sender.specs.Sends.{converted, asksNext, isSpecial, most, Run, sends, Sends}
+use Rattle.sender.specs.Sends.{converted, asksNext, isSpecial, Run, sends, Sends}
 use Rattle.sender.specs.declared.Sent.{Sent}
 use Rattle.linebox.specs.Names.{Case, Connection, Mode1, Mode4, Mode10, Mode11, Settings, Sender, Asks, Text, Codes, One, State, Stream, Host, Tu, Ran}
 use Rattle.step.specs.State.{sound, withReader, withSender, withIncoming}
@@ -90,21 +89,20 @@ plain-text s m x Text b h e =
 plain-text s m x (Codes case) b h e = absurd (false≢true h)
 
 -- the first byte of a run is read as if no field had ever been
-first-same : (s : State) (xs : List ℕ) (room more : ℕ) → length (s .settings .string) ≡ 8 → isMode1 (s .connection) ≡ true → isText (s .reader .stage) ≡ true
+first-same : (s : State) (xs : List ℕ) (room more : ℕ) → isMode1 (s .connection) ≡ true → isText (s .reader .stage) ≡ true
     → (sends (s .settings) (s .sender) Text true xs room .taken ≡ 0 → ⊥) → taking Host s xs room more ≡ taking Host (texting s (s .sender)) xs room more
-first-same s [] room more eight m h n = absurd (n refl)
-first-same s (b ∷ xs) room more eight m h n = go (eqb b 47) refl (ltb room most) refl n
+first-same s [] room more m h n = absurd (n refl)
+first-same s (b ∷ xs) room more m h n = go (eqb b 47) refl (leb (length (items (s .settings) (s .sender) (wantedOf (conversion b)))) room) refl n
   where
-    go : (z : Bool) → eqb b 47 ≡ z → (small : Bool) → ltb room most ≡ small → (sends (s .settings) (s .sender) Text true (b ∷ xs) room .taken ≡ 0 → ⊥)
+    go : (z : Bool) → eqb b 47 ≡ z → (fit : Bool) → leb (length (items (s .settings) (s .sender) (wantedOf (conversion b)))) room ≡ fit → (sends (s .settings) (s .sender) Text true (b ∷ xs) room .taken ≡ 0 → ⊥)
         → taking Host s (b ∷ xs) room more ≡ taking Host (texting s (s .sender)) (b ∷ xs) room more
-    go true e true f n = absurd (n (rw f))
-    go true e false f n = absurd (n (rw (f, e)))
-    go false e true f n = absurd (n (rw f))
-    go false e false f n =
+    go true e fit f n = absurd (n (rw e))
+    go false e false f n = absurd (n (rw (e, f)))
+    go false e true f n =
         let p = plain-text s m (s .sender) Text b refl e in
-        let fit = one-fits Host (s .settings) eight (λ y z. texting s y) (s .sender) Text b room more p (ltb-false room most f) in
+        let fits = one-fits Host (s .settings) (λ y z. texting s y) (s .sender) Text b room more p ∙ f in
         let u : hostStep s b ≡ hostStep (texting s (s .sender)) b = text-step s b m h e ∙ sym (text-step (texting s (s .sender)) b m refl e) in
-        rw (u, fit)
+        rw (u, fits)
 
 module _ (s : State) (ok : sound s ≡ true) (m : isMode1 (s .connection) ≡ true) (h : isText (s .reader .stage) ≡ true) (input old now : List ℕ) (x : Sent)
     (f : Sends (sends (s .settings) (s .sender) Text true input (length old)) old now x) where
@@ -121,7 +119,6 @@ module _ (s : State) (ok : sound s ≡ true) (m : isMode1 (s .connection) ≡ tr
   -- some were
   pub text-runs : (x .taken ≡ 0 → ⊥) → Runs Host s input old now (record { state = texting s (x .sender); taken = x .taken; count = x .count })
   text-runs z =
-      let eight = sound-parts s ok .held .places in
       let n : d .taken ≡ 0 → ⊥ = λ e. z (ap (λ (u : Sent). u .taken) (f .gives) ∙ e) in
       rw (f .gives) (record {
         new = d .codes;
@@ -130,8 +127,8 @@ module _ (s : State) (ok : sound s ≡ true) (m : isMode1 (s .connection) ≡ tr
         places = rw (f .gives) at (f .places);
         rest =
             λ room.
-            first-same s input (length old) room eight m h n
-            ∙ plainly Host (s .settings) eight (λ y z. texting s y) asText (keeps-text (s .settings)) (plain-text s m) input (s .sender) Text (length old) room refl;
+            first-same s input (length old) room m h n
+            ∙ plainly Host (s .settings) (λ y z. texting s y) asText (keeps-text (s .settings)) (plain-text s m) input (s .sender) Text (length old) room refl;
       })
 
 -- TU codes.
@@ -161,12 +158,11 @@ pub codes-run : (s : State) (ok : sound s ≡ true) (m : isMode4 (s .connection)
     → Sends (sends (s .settings) (s .sender) (Codes (s .incoming)) true input (length old)) old now x
     → Runs Tu s input old now (record { state = coding s (x .sender) (x .asks); taken = x .taken; count = x .count })
 codes-run s ok m input old now x f =
-    let eight = sound-parts s ok .held .places in
     let d = sends (s .settings) (s .sender) (Codes (s .incoming)) true input (length old) in
     rw (f .gives) (record {
       new = d .codes;
       within = run-within (s .settings) (s .sender) (Codes (s .incoming)) true input (length old);
       kept = coding-sound s (d .sender) (d .asks) ok;
       places = rw (f .gives) at (f .places);
-      rest = λ room. plainly Tu (s .settings) eight (coding s) asCodes (keeps-codes (s .settings)) (plain-codes s m) input (s .sender) (Codes (s .incoming)) (length old) room refl;
+      rest = λ room. plainly Tu (s .settings) (coding s) asCodes (keeps-codes (s .settings)) (plain-codes s m) input (s .sender) (Codes (s .incoming)) (length old) room refl;
     })

@@ -2,16 +2,14 @@
 -- Assumes nothing.
 use Prim.Native.Nat.{ℕ, suc, _+_, _-_, _≤_}
 use mathlib.Core.Path.{_≡_, refl, sym, ap, _∙_}
-use mathlib.Core.Bool.{Bool, true, false, cond, _&&_, false≢true}
+use mathlib.Core.Bool.{Bool, true, false, cond, _&&_, and-true}
 use mathlib.Core.List.{List, [], _∷_, _++_, append-nil, append-assoc}
 use native.Mathlib.Omega.{arith}
 use native.Mathlib.Nat.{zero-add, sub-zero}
-use borrow.Author.Tests.{le-leb, ltb-false}
-use lib.Dec.{leb, ltb, leb·zero}
+use lib.Dec.{leb, leb·zero}
 use lib.ListN.{length, drop, length-append}
 use Rattle.sender.specs.Item.{items, afterItems, wantedOf}
-use Rattle.sender.specs.Sends.{converted, asksNext, isSpecial, most, Run, sends}
-use Rattle.step.proofs.Most.{byte-most}
+use Rattle.sender.specs.Sends.{converted, asksNext, isSpecial, Run, sends}
 use Rattle.linebox.specs.Names.{Settings, Sender, Asks, State, Stream}
 use Rattle.step.specs.Step.{Step, step}
 use Rattle.linebox.specs.Call.{firstOf, secondOf, refuses, fits, Done, onward, before, taking}
@@ -29,7 +27,7 @@ nested n cs p d =
     let u : suc n + d .taken ≡ suc (n + d .taken) = omega arith in
     rw (u, append-assoc cs p (d .first))
 
-module _ (t : Stream) (o : Settings) (eight : length (o .string) ≡ 8) (st : Sender → Asks → State) where
+module _ (t : Stream) (o : Settings) (st : Sender → Asks → State) where
   -- the bytes sent stand before the rest
   abbrev Stands : Sender → Asks → List ℕ → ℕ → ℕ → Run → Type 0
   Stands x a xs room more d = taking t (st x a) xs room more ≡ before (d .taken) (d .codes) [] (taking t (st (d .sender) (d .asks)) (drop (d .taken) xs) (room - length (d .codes)) more)
@@ -37,24 +35,24 @@ module _ (t : Stream) (o : Settings) (eight : length (o .string) ≡ 8) (st : Se
   none-stand : (x : Sender) (a : Asks) (xs : List ℕ) (room more : ℕ) → Stands x a xs room more (record { sender = x; asks = a; taken = 0; codes = [] })
   none-stand x a xs room more = rw (sub-zero room, zero-add)
 
-  pub one-fits : (x : Sender) (a : Asks) (b : ℕ) (room more : ℕ) → Plain t o st x a b → most ≤ room → fits t (step t (st x a) b) room more ≡ true
-  one-fits x a b room more p h =
-      rw (p .first, p .second, leb·zero, le-leb (length (items o x (wantedOf (converted a b)))) room (omega (arith, byte-most o eight x (converted a b))))
+  -- a byte fits exactly if its codes do
+  pub one-fits : (x : Sender) (a : Asks) (b : ℕ) (room more : ℕ) → Plain t o st x a b → fits t (step t (st x a) b) room more ≡ leb (length (items o x (wantedOf (converted a b)))) room
+  one-fits x a b room more p = rw (p .first, p .second, leb·zero, and-true)
 
   one-more : (x : Sender) (a : Asks) (b : ℕ) (xs : List ℕ) (room more : ℕ) → (isSpecial a b ≡ false → Plain t o st x a b)
       → (let y = afterItems o x (wantedOf (converted a b)) in let r = room - length (items o x (wantedOf (converted a b))) in Stands y (asksNext o a b) xs r more (sends o y (asksNext o a b) true xs r))
       → Stands x a (b ∷ xs) room more (sends o x a true (b ∷ xs) room)
-  one-more x a b xs room more plain rest = go (ltb room most) refl (isSpecial a b) refl
+  one-more x a b xs room more plain rest = go (isSpecial a b) refl (leb (length (items o x (wantedOf (converted a b)))) room) refl
     where
-      go : (small : Bool) → ltb room most ≡ small → (special : Bool) → isSpecial a b ≡ special → Stands x a (b ∷ xs) room more (sends o x a true (b ∷ xs) room)
-      go true e special f = rw e (none-stand x a (b ∷ xs) room more)
-      go false e true f = rw (e, f) (none-stand x a (b ∷ xs) room more)
-      go false e false f =
-          let p = plain f in
+      go : (special : Bool) → isSpecial a b ≡ special → (fit : Bool) → leb (length (items o x (wantedOf (converted a b)))) room ≡ fit → Stands x a (b ∷ xs) room more (sends o x a true (b ∷ xs) room)
+      go true e fit f = rw e (none-stand x a (b ∷ xs) room more)
+      go false e false f = rw (e, f) (none-stand x a (b ∷ xs) room more)
+      go false e true f =
+          let p = plain e in
           let cs = items o x (wantedOf (converted a b)) in
           let d = sends o (afterItems o x (wantedOf (converted a b))) (asksNext o a b) true xs (room - length cs) in
           let u : room - length cs - length (d .codes) ≡ room - length (cs ++ d .codes) = omega (arith, length-append cs (d .codes)) in
-          rw (e, f, p .is-taken, one-fits x a b room more p (ltb-false room most e), p .state, p .first, p .second, sub-zero more, rest, u) (nested (d .taken) cs (d .codes) _)
+          rw (e, f, p .is-taken, one-fits x a b room more p ∙ f, p .state, p .first, p .second, sub-zero more, rest, u) (nested (d .taken) cs (d .codes) _)
 
   -- the bytes up to the first special one
   module _ (how : Asks → Bool) (keeps : (a : Asks) (b : ℕ) → how a ≡ true → how (asksNext o a b) ≡ true)

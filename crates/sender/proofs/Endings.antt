@@ -1,69 +1,107 @@
--- An ending written code by code: what stands before the rest of the string, and the record after it.
+-- An ending code by code, counted or written: what stands before the rest of the string, and the record after it.
 -- Assumes nothing.
 use Prim.Native.Nat.{ℕ, suc, _+_, _*_, _-_, _<_, _≤_}
 use mathlib.Core.Path.{_≡_, refl, sym, ap, _∙_}
 use mathlib.Core.List.{List, [], _∷_, _++_, append-nil, append-assoc}
 use native.Mathlib.Numerals.{add-one}
 use native.Mathlib.Omega.{arith}
-use borrow.Author.Tests.{eq-eqb, ne-eqb}
+use mathlib.Core.Bool.{true, false}
+use lib.Dec.{eqb}
 use borrow.Rule.Slice.PartMut.{putMid, midOf}
 use lib.ListN.{length, getD, drop, drop-of-length-le, length-append}
 use lib.Seq.{drop-cons}
 use Rattle.laws.specs.Written.{Filled}
 use Rattle.laws.proofs.Filled.{filled-none, filled-on}
-use Rattle.code.specs.Kinds.{kindOf, shifts}
-use Rattle.sender.specs.Names.{Case, Letters, Figures, Kind, Still, Space, Return, Shift, Char, Settings, Known, Is, Record, Noted}
-use Rattle.sender.specs.Names.known
+use Rattle.code.specs.Kinds.{kindOf}
+use Rattle.sender.specs.Names.{Settings, Record, Noted}
 use Rattle.sender.specs.Record.{notes}
-use Rattle.sender.specs.Code.{shiftTo, unshift, sendKind, sendAs}
 use Rattle.sender.specs.Ending.{onRecord, endingCode, endingOf, untilZero}
 use Rattle.sender.specs.After.{after}
-use Rattle.sender.specs.Sends.{Notes}
+use Rattle.sender.specs.Sends.{noted, Notes}
 use Rattle.sender.proofs.Sends.{notes-append}
 use Rattle.sender.proofs.After.{record-after}
 use Rattle.sender.proofs.Few.{kind-length}
 
--- where the loop is: i of the string's codes are sent as p, at most two each, and the rest is still to come
-pub record Ending (o : Settings) (start : Record) (string old : List ℕ) (held : Record) (i : ℕ) (now : List ℕ) (k : ℕ) : Type 0 where
-  pub p : List ℕ
+-- where a loop is: i of the string's codes go out as p, at most two each, and the rest is still to come
+pub record Ended (o : Settings) (start : Record) (string : List ℕ) (held : Record) (i : ℕ) (p : List ℕ) : Type 0 where
   pub within : i ≤ 8
-  pub few : k ≤ 2 * i
+  pub few : length p ≤ 2 * i
   pub note : held ≡ notes o start p
   pub rest : endingOf o start (untilZero string) ≡ p ++ endingOf o held (untilZero (drop i string))
+
+-- they are k codes
+pub record Counting (o : Settings) (start : Record) (string : List ℕ) (held : Record) (i k : ℕ) : Type 0 where
+  pub p : List ℕ
+  pub ended : Ended o start string held i p
+  pub count : k ≡ length p
+
+-- they stand at the front of a buffer
+pub record Ending (o : Settings) (start : Record) (string old : List ℕ) (held : Record) (i : ℕ) (now : List ℕ) (k : ℕ) : Type 0 where
+  pub p : List ℕ
+  pub ended : Ended o start string held i p
   pub places : Filled old now p k
 
-module _ (o : Settings) (start : Record) (string old : List ℕ) where
-  pub ending-start : Ending o start string old start 0 old 0
-  ending-start = record { p = []; within = omega arith; few = omega arith; note = refl; rest = refl; places = filled-none old }
+module _ (o : Settings) (start : Record) (string : List ℕ) where
+  none-ended : Ended o start string start 0 []
+  none-ended = record { within = omega arith; few = omega arith; note = refl; rest = refl }
 
-  -- the string's end, or its first 0
-  ends : (held : Record) (i : ℕ) (now : List ℕ) (k : ℕ) → Ending o start string old held i now k → untilZero (drop i string) ≡ []
-      → Notes o start (endingOf o start (untilZero string)) old now (record { held = held; count = k })
-  ends held i now k e z =
-      let all : endingOf o start (untilZero string) ≡ e .p = e .rest ∙ rw (z, append-nil) in
-      rw all (record { held = e .note; places = e .places })
+  pub count-start : Counting o start string start 0 0
+  count-start = record { p = []; ended = none-ended; count = refl }
 
-  module _ (held : Record) (i : ℕ) (now : List ℕ) (k : ℕ) (e : Ending o start string old held i now k) where
-    pub ending-zero : i < length string → getD string i 0 ≡ 0 → Notes o start (endingOf o start (untilZero string)) old now (record { held = held; count = k })
-    ending-zero h z = ends held i now k e (rw (drop-cons string i 0 h, eq-eqb _ _ z))
+  pub ending-start : (old : List ℕ) → Ending o start string old start 0 old 0
+  ending-start old = record { p = []; ended = none-ended; places = filled-none old }
 
-    pub ending-over : length string ≤ i → Notes o start (endingOf o start (untilZero string)) old now (record { held = held; count = k })
-    ending-over h = ends held i now k e (rw (drop-of-length-le string h))
+  module _ (held : Record) (i : ℕ) where
+    -- the string's end, or its first 0
+    abbrev Over : Type 0
+    Over = untilZero (drop i string) ≡ []
+
+    pub at-zero : i < length string → eqb (getD string i 0) 0 ≡ true → Over
+    at-zero h z = rw (drop-cons string i 0 h, z)
+
+    pub at-end : length string ≤ i → Over
+    at-end h = rw (drop-of-length-le string h)
+
+    all-ended : (p : List ℕ) → Ended o start string held i p → Over → endingOf o start (untilZero string) ≡ p
+    all-ended p e z = e .rest ∙ rw (z, append-nil)
+
+    pub count-over : (k : ℕ) → Counting o start string held i k → Over → (k ≤ 16) × (record { held = held; count = k } ≡ noted o start (endingOf o start (untilZero string)))
+    count-over k e z = (omega (arith, e .count, e .ended .few, e .ended .within), rw (all-ended (e .p) (e .ended) z, e .count, ← e .ended .note))
+
+    pub ending-over : (old now : List ℕ) (k : ℕ) → Ending o start string old held i now k → Over → Notes o start (endingOf o start (untilZero string)) old now (record { held = held; count = k })
+    ending-over old now k e z = rw (all-ended (e .p) (e .ended) z) (record { held = e .ended .note; places = e .places })
 
     -- one code more
-    pub ending-turn : i < 8 → i < length string → (getD string i 0 ≡ 0 → ⊥) → (ys : List ℕ) (m : ℕ) → Filled (midOf k (length now - k) now) ys (endingCode o (held .case) (getD string i 0)) m
-        → Ending o start string old (after o held (onRecord (held .case)) (kindOf (getD string i 0))) (i + 1) (putMid k (length now - k) now ys) (k + m)
-    ending-turn l h z ys m f =
-        let c = getD string i 0 in
-        let cs = untilZero (drop (i + 1) string) in
-        let x = endingCode o (held .case) c in
-        let r = record-after o held (onRecord (held .case)) c in
-        let next : untilZero (drop i string) ≡ c ∷ cs = rw (drop-cons string i 0 h, ne-eqb c 0 z, add-one) in
-        record {
-          p = e .p ++ x;
-          within = omega arith;
-          few = omega (arith, e .few, f .count, kind-length o (held .case) (onRecord (held .case)) c (kindOf c));
-          note = sym r ∙ ap (λ (u : Record). notes o u x) (e .note) ∙ sym (notes-append o start (e .p) x);
-          rest = e .rest ∙ ap (λ (u : List ℕ). e .p ++ endingOf o held u) next ∙ ap (λ (u : Record). e .p ++ (x ++ endingOf o u cs)) r ∙ sym (append-assoc (e .p) x _);
-          places = filled-on old now (e .p) x ys k m (e .places) f;
-        }
+    module _ (l : i < 8) (h : i < length string) (z : eqb (getD string i 0) 0 ≡ false) where
+      abbrev c : ℕ
+      c = getD string i 0
+
+      abbrev x : List ℕ
+      x = endingCode o (held .case) c
+
+      abbrev next : Record
+      next = after o held (onRecord (held .case)) (kindOf c)
+
+      one-ended : (p : List ℕ) → Ended o start string held i p → Ended o start string next (i + 1) (p ++ x)
+      one-ended p e =
+          let cs = untilZero (drop (i + 1) string) in
+          let r = record-after o held (onRecord (held .case)) c in
+          let more : untilZero (drop i string) ≡ c ∷ cs = rw (drop-cons string i 0 h, z, add-one) in
+          record {
+            within = omega arith;
+            few = rw (length-append p x) (omega (arith, e .few, kind-length o (held .case) (onRecord (held .case)) c (kindOf c)));
+            note = sym r ∙ ap (λ (u : Record). notes o u x) (e .note) ∙ sym (notes-append o start p x);
+            rest = e .rest ∙ ap (λ (u : List ℕ). p ++ endingOf o held u) more ∙ ap (λ (u : Record). p ++ (x ++ endingOf o u cs)) r ∙ sym (append-assoc p x _);
+          }
+
+      pub count-turn : (k m : ℕ) → Counting o start string held i k → m ≡ length x → Counting o start string next (i + 1) (k + m)
+      count-turn k m e f = record { p = e .p ++ x; ended = one-ended (e .p) (e .ended); count = rw (length-append (e .p) x, e .count, f) }
+
+      -- it has room where the whole ending has
+      pub ending-room : (old now : List ℕ) (k : ℕ) → Ending o start string old held i now k → length (endingOf o start (untilZero string)) ≤ length old → length x ≤ length now - k
+      ending-room old now k e fits =
+          let all = one-ended (e .p) (e .ended) .rest in
+          omega (arith, fits, ap length all, length-append (e .p ++ x) (endingOf o next (untilZero (drop (i + 1) string))), length-append (e .p) x, e .places .count, e .places .same-length)
+
+      pub ending-turn : (old now ys : List ℕ) (k m : ℕ) → Ending o start string old held i now k → Filled (midOf k (length now - k) now) ys x m → Ending o start string old next (i + 1) (putMid k (length now - k) now ys) (k + m)
+      ending-turn old now ys k m e f = record { p = e .p ++ x; ended = one-ended (e .p) (e .ended); places = filled-on old now (e .p) x ys k m (e .places) f }

@@ -1,14 +1,20 @@
--- How many codes one code is with its shifts: two at most.
+-- How many codes one code is with its shifts: two at most; and a byte, whatever string 90 holds: two for each of its eight codes and two
+-- for the byte's own, eighteen at most.
 -- Assumes nothing.
-use Prim.Native.Nat.{ℕ, _≤_}
-use mathlib.Core.Bool.{Bool, true, false}
-use mathlib.Core.List.{[], _∷_}
+use Prim.Native.Nat.{ℕ, _*_, _≤_}
+use mathlib.Core.Path.{_≡_}
+use mathlib.Core.Bool.{Bool, true, false, cond, _&&_}
+use mathlib.Core.List.{List, [], _∷_, _++_, append-nil}
 use native.Mathlib.Omega.{arith}
+use lib.Dec.{eqb}
 use lib.ListN.{length, length-append}
-use Rattle.code.specs.Kinds.{kindOf, shifts}
-use Rattle.sender.specs.Names.{Case, Letters, Figures, Kind, Still, Space, Return, Shift, Char, Settings, Known, Is}
+use Rattle.code.specs.Kinds.{kindOf, shifts, moves}
+use Rattle.sender.specs.Names.{Case, Letters, Figures, Kind, Still, Space, Return, Shift, Char, Conversion, Nothing, Free, Cased, Settings, Known, Is, Record, Wanted, Sender}
 use Rattle.sender.specs.Names.known
+use Rattle.sender.specs.Record.{notes}
 use Rattle.sender.specs.Code.{shiftTo, unshift, sendKind, sendAs}
+use Rattle.sender.specs.Ending.{onRecord, endingCode, endingOf, untilZero, due, ending, endingBefore}
+use Rattle.sender.specs.Item.{character, lastOf, repeats, item, items, wanted, wantedOf}
 
 shift-length : (n : Known) (want : Case) → length (shifts (shiftTo n want)) ≤ 1
 shift-length known.Unknown want = omega arith
@@ -30,3 +36,42 @@ kind-length o n want c (Char bell) = rw (length-append (shifts (shiftTo n want))
 
 pub code-length : (o : Settings) (n : Known) (want : Case) (c : ℕ) → length (sendAs o n want c) ≤ 2
 code-length o n want c = kind-length o n want c (kindOf c)
+
+ending-length : (o : Settings) (r : Record) (cs : List ℕ) → length (endingOf o r cs) ≤ 2 * length cs
+ending-length o r [] = omega arith
+ending-length o r (c ∷ cs) =
+    let x = endingCode o (r .case) c in
+    rw (length-append x (endingOf o (notes o r x) cs)) (omega (arith, code-length o (r .case) (onRecord (r .case)) c, ending-length o (notes o r x) cs))
+
+until-length : (cs : List ℕ) → length (untilZero cs) ≤ length cs
+until-length [] = omega arith
+until-length (c ∷ cs) = go (eqb c 0) (until-length cs)
+  where
+    go : (b : Bool) → length (untilZero cs) ≤ length cs → length (cond b [] (c ∷ untilZero cs)) ≤ length (c ∷ cs)
+    go true h = omega arith
+    go false h = omega arith
+
+module _ (o : Settings) (eight : length (o .string) ≡ 8) where
+  ending-most : (r : Record) (b : Bool) → length (ending o r b) ≤ 16
+  ending-most r true = omega (arith, ending-length o r (untilZero (o .string)), until-length (o .string), eight)
+  ending-most r false = omega arith
+
+  character-most : (r : Record) (w : Wanted) → length (character o r w) ≤ 18
+  character-most r w =
+      let e = endingBefore o r w in
+      let n = notes o r e .case in
+      rw (length-append e (sendAs o n (w .case) (w .code)))
+      (omega (arith, ending-most r (moves (w .case) (kindOf (w .code)) && due o (r .column)), code-length o n (w .case) (w .code)))
+
+  item-most : (s : Sender) (w : Wanted) → length (item o s w) ≤ 18
+  item-most s w = go (repeats (lastOf (kindOf (w .code))) (s .last) && o .filter)
+    where
+      go : (b : Bool) → length (cond b [] (character o (s .held) w)) ≤ 18
+      go true = omega arith
+      go false = character-most (s .held) w
+
+  -- a byte's items
+  pub byte-most : (s : Sender) (x : Conversion) → length (items o s (wantedOf x)) ≤ 18
+  byte-most s Nothing = omega arith
+  byte-most s (Free c) = rw append-nil (item-most s (wanted Letters c))
+  byte-most s (Cased case c) = rw append-nil (item-most s (wanted case c))

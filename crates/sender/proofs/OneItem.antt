@@ -1,11 +1,12 @@
--- One item written: the ending and the code, dropped or not.
+-- One item counted and written: the ending and the code, dropped or not.
 -- Assumes nothing.
-use Prim.Native.Nat.{ℕ, _+_, _-_}
+use Prim.Native.Nat.{ℕ, _+_, _-_, _≤_}
 use mathlib.Core.Path.{_≡_, refl, sym, ap, _∙_}
 use mathlib.Core.Bool.{Bool, true, false, _&&_}
 use mathlib.Core.List.{List, [], _∷_, _++_, append-nil}
+use native.Mathlib.Omega.{arith}
 use borrow.Rule.Slice.PartMut.{putMid, midOf}
-use lib.ListN.{length}
+use lib.ListN.{length, length-append}
 use Rattle.laws.specs.Written.{Filled}
 use Rattle.laws.proofs.Filled.{filled-none, filled-on}
 use Rattle.code.specs.Kinds.{kindOf, moves}
@@ -15,36 +16,71 @@ use Rattle.sender.specs.Code.{sendKind, sendAs}
 use Rattle.sender.specs.Ending.{due, ending, endingBefore}
 use Rattle.sender.specs.Item.{character, lastOf, repeats, item, items, afterItem, afterItems}
 use Rattle.sender.specs.After.{after}
-use Rattle.sender.specs.Sends.{Notes, Puts}
+use Rattle.sender.specs.Sends.{noted, counted, Notes, Puts}
 use Rattle.sender.proofs.Sends.{notes-append}
 use Rattle.sender.proofs.After.{record-after}
 
 -- no ending
+pub none-noted : (o : Settings) (r : Record) (b : Bool) → b ≡ false → (0 ≤ 16) × (record { held = r; count = 0 } ≡ noted o r (ending o r b))
+none-noted o r b e = (omega arith, rw e)
+
 pub no-ending : (o : Settings) (r : Record) (old : List ℕ) (b : Bool) → b ≡ false → Notes o r (ending o r b) old old (record { held = r; count = 0 })
 no-ending o r old b e = rw e (record { held = refl; places = filled-none old })
 
 -- the code after the ending
-pub character-put : (o : Settings) (r : Record) (w : Wanted) (k : Kind) (old mid ys : List ℕ) (x : Noted) (m : ℕ) → k ≡ kindOf (w .code)
-    → Notes o r (ending o r (moves (w .case) k && due o (r .column))) old mid x
-    → Filled (midOf (x .count) (length mid - x .count) mid) ys (sendKind o (x .held .case) (w .case) k (w .code)) m
-    → Notes o r (character o r w) old (putMid (x .count) (length mid - x .count) mid ys) (record { held = after o (x .held) (w .case) k; count = x .count + m })
-character-put o r w k old mid ys x m q e f =
-    let b = endingBefore o r w in
-    let e' : Notes o r b old mid x = rw q at e in
-    let c = sendAs o (x .held .case) (w .case) (w .code) in
-    let f' : Filled (midOf (x .count) (length mid - x .count) mid) ys c m = rw q at f in
-    let all : b ++ c ≡ character o r w = ap (λ (u : Record). b ++ sendAs o (u .case) (w .case) (w .code)) (e' .held) in
-    let h : after o (x .held) (w .case) k ≡ notes o r (b ++ c) = rw q (sym (record-after o (x .held) (w .case) (w .code)) ∙ ap (λ (u : Record). notes o u c) (e' .held) ∙ sym (notes-append o r b c)) in
-    rw (← all) (record { held = h; places = filled-on old mid b c ys (x .count) m (e' .places) f' })
+module _ (o : Settings) (r : Record) (w : Wanted) (k : Kind) (q : k ≡ kindOf (w .code)) where
+  abbrev b : List ℕ
+  b = ending o r (moves (w .case) k && due o (r .column))
+
+  module _ (held : Record) (e : held ≡ notes o r b) where
+    abbrev c : List ℕ
+    c = sendKind o (held .case) (w .case) k (w .code)
+
+    character-codes : b ++ c ≡ character o r w
+    character-codes = rw (e, q)
+
+    character-held : after o held (w .case) k ≡ notes o r (character o r w)
+    character-held =
+        rw (← character-codes, notes-append o r b c, ← e, q) (sym (record-after o held (w .case) (w .code)))
+
+    pub character-noted : (n m : ℕ) → n ≡ length b → m ≡ length c → record { held = after o held (w .case) k; count = n + m } ≡ noted o r (character o r w)
+    character-noted n m f g = rw (character-held, ← character-codes, length-append b c, f, g)
+
+    -- it has room where the whole character has
+    pub character-room : (old mid : List ℕ) (n : ℕ) → Filled old mid b n → length (character o r w) ≤ length old → length c ≤ length mid - n
+    character-room old mid n f fits = omega (arith, fits, ap length character-codes, length-append b c, f .count, f .same-length)
+
+    pub character-put : (old mid ys : List ℕ) (n m : ℕ) → Filled old mid b n → Filled (midOf n (length mid - n) mid) ys c m
+        → Notes o r (character o r w) old (putMid n (length mid - n) mid ys) (record { held = after o held (w .case) k; count = n + m })
+    character-put old mid ys n m f g = record { held = character-held; places = rw (← character-codes) (filled-on old mid b c ys n m f g) }
+
+  -- the ending has room where the whole character has
+  pub ending-room : (n : ℕ) → length (character o r w) ≤ n → length b ≤ n
+  ending-room n h = omega (arith, h, ap length (character-codes (notes o r b) refl), length-append b (sendKind o (notes o r b .case) (w .case) k (w .code)))
 
 module _ (o : Settings) (s : Sender) (w : Wanted) (k : Kind) (last : Last) (p : k ≡ kindOf (w .code)) (q : last ≡ lastOf k) where
-  pub item-dropped : (repeats last (s .last) && o .filter) ≡ true → (old : List ℕ) → Puts o s (w ∷ []) old old (record { sender = record { held = s .held; last = last }; count = 0 })
-  item-dropped e old =
-      let d : (repeats (lastOf (kindOf (w .code))) (s .last) && o .filter) ≡ true = rw (q, p) at e in
-      rw (q, p) (record { sender = rw d; places = rw d (filled-none old) })
+  -- dropped
+  module _ (e : (repeats last (s .last) && o .filter) ≡ true) where
+    dropped : (repeats (lastOf (kindOf (w .code))) (s .last) && o .filter) ≡ true
+    dropped = rw (q, p) at e
 
-  pub item-sent : (repeats last (s .last) && o .filter) ≡ false → (old now : List ℕ) (x : Noted) → Notes o (s .held) (character o (s .held) w) old now x
-      → Puts o s (w ∷ []) old now (record { sender = record { held = x .held; last = last }; count = x .count })
-  item-sent e old now x n =
-      let d : (repeats (lastOf (kindOf (w .code))) (s .last) && o .filter) ≡ false = rw (q, p) at e in
-      rw (q, p) (record { sender = rw (d, n .held); places = rw (d, append-nil) (n .places) })
+    pub drop-counted : (0 ≤ 18) × (record { sender = record { held = s .held; last = last }; count = 0 } ≡ counted o s (w ∷ []))
+    drop-counted = (omega arith, rw (q, p, dropped))
+
+    pub item-dropped : (old : List ℕ) → Puts o s (w ∷ []) old old (record { sender = record { held = s .held; last = last }; count = 0 })
+    item-dropped old = rw (q, p) (record { sender = rw dropped; places = rw dropped (filled-none old) })
+
+  -- sent
+  module _ (e : (repeats last (s .last) && o .filter) ≡ false) where
+    kept : (repeats (lastOf (kindOf (w .code))) (s .last) && o .filter) ≡ false
+    kept = rw (q, p) at e
+
+    pub item-counted : (x : Noted) → x ≡ noted o (s .held) (character o (s .held) w) → record { sender = record { held = x .held; last = last }; count = x .count } ≡ counted o s (w ∷ [])
+    item-counted x f = rw (f, q, p, kept, append-nil)
+
+    pub item-room : (n : ℕ) → length (items o s (w ∷ [])) ≤ n → length (character o (s .held) w) ≤ n
+    item-room n h = rw (kept, append-nil (character o (s .held) w)) at h
+
+    pub item-sent : (old now : List ℕ) (x : Noted) → Notes o (s .held) (character o (s .held) w) old now x
+        → Puts o s (w ∷ []) old now (record { sender = record { held = x .held; last = last }; count = x .count })
+    item-sent old now x n = rw (q, p) (record { sender = rw (kept, n .held); places = rw (kept, append-nil) (n .places) })

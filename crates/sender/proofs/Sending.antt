@@ -3,20 +3,20 @@
 use Prim.Native.Nat.{ℕ, suc, _+_, _-_, _≤_, _<_}
 use mathlib.Core.Path.{_≡_, refl, sym, ap, _∙_}
 use mathlib.Core.Bool.{Bool, true, false, cond, _&&_, false≢true, true≢false}
-use lib.Dec.{ltb}
+use lib.Dec.{leb}
 use mathlib.Core.List.{List, [], _∷_, _++_, append-nil, append-assoc}
 use native.Mathlib.Omega.{arith}
 use native.Mathlib.Numerals.{add-one}
 use native.Mathlib.Nat.{zero-add, add-zero, sub-zero}
 use borrow.Rule.Slice.PartMut.{putMid, midOf}
-use borrow.Author.Tests.{lt-ltb, le-ltb}
+use borrow.Author.Tests.{le-leb, lt-leb, leb-true}
 use lib.ListN.{length, getD, drop, drop-of-length-le}
 use lib.Seq.{drop-cons}
 use Rattle.laws.specs.Written.{Filled}
 use Rattle.laws.proofs.Filled.{filled-none, filled-on}
 use Rattle.sender.specs.Names.{Conversion, Nothing, Free, Cased, Settings, Sender, Asks, Item}
 use Rattle.sender.specs.Item.{items, afterItems, wantedOf}
-use Rattle.sender.specs.Sends.{converted, isNone, wantedAs, asksNext, isSpecial, most, Run, stopped, onward, sends, Puts, Sends}
+use Rattle.sender.specs.Sends.{converted, isNone, wantedAs, asksNext, isSpecial, Run, stopped, onward, sends, Puts, Sends}
 
 -- where there is a code, it is the one item
 pub one-wanted : (x : Conversion) → isNone x ≡ false → wantedOf x ≡ wantedAs x ∷ []
@@ -60,54 +60,54 @@ module _ (o : Settings) (start : Sender) (first : Asks) (plain : Bool) (bytes ol
     all-sent h = stops (rw (drop-of-length-le bytes h))
 
     module _ (lt : n < length bytes) where
-      pub no-room : length now - k < most → Sends (sends o start first plain bytes (length old)) old now (record { sender = s; asks = asks; taken = n; count = k })
-      no-room h =
-          let u : length old - k < most = omega (arith, e .places .same-length) in
-          stops (rw (drop-cons bytes n 0 lt, lt-ltb (length old - k) most u))
+      -- the next byte's codes
+      abbrev cs : List ℕ
+      cs = items o s (wantedOf (converted asks (getD bytes n 0)))
 
-      pub at-special : most ≤ length now - k → (plain && isSpecial asks (getD bytes n 0)) ≡ true → Sends (sends o start first plain bytes (length old)) old now (record { sender = s; asks = asks; taken = n; count = k })
-      at-special h z =
-          let u : most ≤ length old - k = omega (arith, e .places .same-length) in
-          stops (rw (drop-cons bytes n 0 lt, le-ltb (length old - k) most u, z))
+      pub at-special : (plain && isSpecial asks (getD bytes n 0)) ≡ true → Sends (sends o start first plain bytes (length old)) old now (record { sender = s; asks = asks; taken = n; count = k })
+      at-special z = stops (rw (drop-cons bytes n 0 lt, z))
 
-      -- one byte more
-      pub sends-on : most ≤ length now - k → (plain && isSpecial asks (getD bytes n 0)) ≡ false → (ys : List ℕ) (x : Item) → Puts o s (wantedOf (converted asks (getD bytes n 0))) (midOf k (length now - k) now) ys x
-          → Sending o start first plain bytes old (x .sender) (asksNext o asks (getD bytes n 0)) (n + 1) (putMid k (length now - k) now ys) (k + x .count)
-      sends-on h z ys x f =
-          let b = getD bytes n 0 in
-          let ws = wantedOf (converted asks b) in
-          let cs = items o s ws in
-          let a = length old - k in
-          let u : most ≤ a = omega (arith, e .places .same-length) in
-          let v : a - length cs ≡ length old - (k + x .count) = omega (arith, f .places .count) in
-          let turn : sends o s asks plain (drop n bytes) a ≡ onward cs (sends o (afterItems o s ws) (asksNext o asks b) plain (drop (n + 1) bytes) (a - length cs)) = rw (drop-cons bytes n 0 lt, le-ltb a most u, z, add-one) in
-          record {
-            p = e .p ++ cs;
-            within = omega arith;
-            places = filled-on old now (e .p) cs ys k (x .count) (e .places) (f .places);
-            rest = e .rest ∙ ap (before n (e .p)) turn ∙ moved n (e .p) cs _ ∙ rw (f .sender, v);
-          }
+      module _ (z : (plain && isSpecial asks (getD bytes n 0)) ≡ false) where
+        pub no-room : leb (length cs) (length now - k) ≡ false → Sends (sends o start first plain bytes (length old)) old now (record { sender = s; asks = asks; taken = n; count = k })
+        no-room h = stops (rw (drop-cons bytes n 0 lt, z, ← e .places .same-length, h))
+
+        -- one byte more
+        pub sends-on : leb (length cs) (length now - k) ≡ true → (ys : List ℕ) (x : Item) → Puts o s (wantedOf (converted asks (getD bytes n 0))) (midOf k (length now - k) now) ys x
+            → Sending o start first plain bytes old (x .sender) (asksNext o asks (getD bytes n 0)) (n + 1) (putMid k (length now - k) now ys) (k + x .count)
+        sends-on h ys x f =
+            let b = getD bytes n 0 in
+            let ws = wantedOf (converted asks b) in
+            let a = length old - k in
+            let u : leb (length cs) a ≡ true = rw (e .places .same-length) at h in
+            let v : a - length cs ≡ length old - (k + x .count) = omega (arith, f .places .count) in
+            let turn : sends o s asks plain (drop n bytes) a ≡ onward cs (sends o (afterItems o s ws) (asksNext o asks b) plain (drop (n + 1) bytes) (a - length cs)) = rw (drop-cons bytes n 0 lt, z, u, add-one) in
+            record {
+              p = e .p ++ cs;
+              within = omega arith;
+              places = filled-on old now (e .p) cs ys k (x .count) (e .places) (f .places);
+              rest = e .rest ∙ ap (before n (e .p)) turn ∙ moved n (e .p) cs _ ∙ rw (f .sender, v);
+            }
 
 -- no more bytes than there are
 pub run-within : (o : Settings) (s : Sender) (asks : Asks) (plain : Bool) (bs : List ℕ) (room : ℕ) → sends o s asks plain bs room .taken ≤ length bs
 run-within o s asks plain [] room = omega arith
-run-within o s asks plain (b ∷ bs) room = go (ltb room most) (plain && isSpecial asks b) (run-within o _ _ plain bs _)
+run-within o s asks plain (b ∷ bs) room = go (plain && isSpecial asks b) (leb (length (items o s (wantedOf (converted asks b)))) room) (run-within o _ _ plain bs _)
   where
-    go : (small special : Bool)
+    go : (special fits : Bool)
         → (let ws = wantedOf (converted asks b) in sends o (afterItems o s ws) (asksNext o asks b) plain bs (room - length (items o s ws)) .taken ≤ length bs)
-        → (let ws = wantedOf (converted asks b) in cond small (stopped s asks) (cond special (stopped s asks) (onward (items o s ws) (sends o (afterItems o s ws) (asksNext o asks b) plain bs (room - length (items o s ws))))) .taken) ≤ length (b ∷ bs)
-    go true special h = omega arith
-    go false true h = omega arith
-    go false false h = omega (arith, h)
+        → (let ws = wantedOf (converted asks b) in cond special (stopped s asks) (cond fits (onward (items o s ws) (sends o (afterItems o s ws) (asksNext o asks b) plain bs (room - length (items o s ws)))) (stopped s asks)) .taken) ≤ length (b ∷ bs)
+    go true fits h = omega arith
+    go false true h = omega (arith, h)
+    go false false h = omega arith
 
 -- no bytes, no codes
 pub run-none : (o : Settings) (s : Sender) (asks : Asks) (plain : Bool) (bs : List ℕ) (room : ℕ) → sends o s asks plain bs room .taken ≡ 0 → sends o s asks plain bs room .codes ≡ []
 run-none o s asks plain [] room e = refl
-run-none o s asks plain (b ∷ bs) room e = go (ltb room most) (plain && isSpecial asks b) e
+run-none o s asks plain (b ∷ bs) room e = go (plain && isSpecial asks b) (leb (length (items o s (wantedOf (converted asks b)))) room) e
   where
-    go : (small special : Bool)
+    go : (special fits : Bool)
         → let ws = wantedOf (converted asks b) in
-        let d = cond small (stopped s asks) (cond special (stopped s asks) (onward (items o s ws) (sends o (afterItems o s ws) (asksNext o asks b) plain bs (room - length (items o s ws))))) in d .taken ≡ 0 → d .codes ≡ []
-    go true special e = refl
-    go false true e = refl
-    go false false e = absurd (omega (arith, e))
+        let d = cond special (stopped s asks) (cond fits (onward (items o s ws) (sends o (afterItems o s ws) (asksNext o asks b) plain bs (room - length (items o s ws)))) (stopped s asks)) in d .taken ≡ 0 → d .codes ≡ []
+    go true fits e = refl
+    go false true e = absurd (omega (arith, e))
+    go false false e = refl

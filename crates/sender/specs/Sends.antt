@@ -3,7 +3,7 @@ use Prim.Native.Nat.{ℕ, suc, _-_}
 use mathlib.Core.Path.{_≡_}
 use mathlib.Core.Bool.{Bool, true, false, cond, _&&_}
 use mathlib.Core.List.{List, [], _∷_, _++_}
-use lib.Dec.{eqb, ltb}
+use lib.Dec.{eqb, leb, ltb}
 use lib.ListN.{length}
 use Rattle.laws.specs.Written.{fronted, Filled}
 use Rattle.code.specs.Kinds.{kindOf}
@@ -11,6 +11,14 @@ use Rattle.code.specs.Convert.{conversion}
 use Rattle.sender.specs.Names.{Letters, Conversion, Nothing, Free, Cased, Settings, Record, Wanted, Sender, Asks, Text, Codes, Noted, Item, Sent}
 use Rattle.sender.specs.Record.{notes}
 use Rattle.sender.specs.Item.{items, afterItems, wanted, wantedOf, incoming}
+
+-- what is told of codes that go out: the record after them, and how many they are
+abbrev pub noted : Settings → Record → List ℕ → Noted
+noted o start codes = record { held = notes o start codes; count = length codes }
+
+-- and of items
+abbrev pub counted : Settings → Sender → List Wanted → Item
+counted o s ws = record { sender = afterItems o s ws; count = length (items o s ws) }
 
 -- codes at the front of a buffer, each noted in the record
 pub record Notes (o : Settings) (start : Record) (codes old now : List ℕ) (r : Noted) : Type 0 where
@@ -49,10 +57,6 @@ abbrev pub isSpecial : Asks → ℕ → Bool
 isSpecial Text b = eqb b 47
 isSpecial (Codes case) c = ltb 31 c
 
--- no byte goes out as more codes: eight of string 90 and the byte's own, each with a shift
-abbrev pub most : ℕ
-most = 18
-
 -- bytes that went out: the sender after them and how the next ones ask, how many they are, and their codes
 pub record Run : Type 0 where
   pub sender : Sender
@@ -67,14 +71,13 @@ stopped s asks = record { sender = s; asks = asks; taken = 0; codes = [] }
 abbrev pub onward : List ℕ → Run → Run
 onward cs d = record { sender = d .sender; asks = d .asks; taken = suc (d .taken); codes = cs ++ d .codes }
 
--- the bytes one after the other, as long as the buffer has room for whatever one may be, and up to a special one where plain ones
--- are asked for
+-- the bytes one after the other, as long as all codes of the next one fit, and up to a special one where plain ones are asked for
 abbrev pub sends : Settings → Sender → Asks → Bool → List ℕ → ℕ → Run
 sends o s asks plain [] room = stopped s asks
 sends o s asks plain (b ∷ bs) room =
     let ws = wantedOf (converted asks b) in
-    cond (ltb room most) (stopped s asks)
-    (cond (plain && isSpecial asks b) (stopped s asks) (onward (items o s ws) (sends o (afterItems o s ws) (asksNext o asks b) plain bs (room - length (items o s ws)))))
+    cond (plain && isSpecial asks b) (stopped s asks)
+    (cond (leb (length (items o s ws)) room) (onward (items o s ws) (sends o (afterItems o s ws) (asksNext o asks b) plain bs (room - length (items o s ws)))) (stopped s asks))
 
 -- what the caller is told of it, and the buffer
 pub record Sends (d : Run) (old now : List ℕ) (r : Sent) : Type 0 where

@@ -1,4 +1,5 @@
-// Items at the front of a buffer: the ending that is due, the code with its shifts, and what option 72 drops.
+// Items: the ending that is due, the code with its shifts, and what option 72 drops. How many codes they are, and at the front of a
+// buffer that has room for them.
 ghost use mathlib.Core.Path.{_≡_};
 ghost use mathlib.Core.Bool.{_&&_};
 ghost use mathlib.Core.List.{[], _∷_};
@@ -6,8 +7,8 @@ ghost use Prim.Native.Nat.{_≤_};
 ghost use lib.ListN.{length};
 ghost use Rattle.code.specs.Kinds.{kindOf};
 ghost use Rattle.sender.specs.Ending.{due, ending};
-ghost use Rattle.sender.specs.Item.{character, lastOf, repeats};
-ghost use Rattle.sender.specs.Sends.{most, Notes, Puts};
+ghost use Rattle.sender.specs.Item.{character, lastOf, repeats, items};
+ghost use Rattle.sender.specs.Sends.{noted, counted, Notes, Puts};
 use crate::Column;
 use crate::Item;
 use crate::Last;
@@ -15,6 +16,8 @@ use crate::Noted;
 use crate::Record;
 use crate::Sender;
 use crate::Wanted;
+use crate::codes::count_code;
+use crate::codes::count_ending;
 use crate::codes::put_code;
 use crate::codes::put_ending;
 use crate::records::after;
@@ -32,12 +35,24 @@ fn is_due(o: Settings, col: Column) -> bool
     }
 }
 
+// The ending, where it goes before this code, counted.
+fn count_end(o: Settings, held: Record, moves: bool) -> Noted
+    ensures { λ r. ⌜ (r .count ≤ 16) × (r ≡ noted o held (ending o held (moves && due o (held .column)))) ⌝ }
+{
+    let col = held.column;
+    let string = o.string;
+    if moves {
+        if is_due(o, col) {
+            return count_ending(o, held, string);
+        }
+    }
+    Noted { held, count: 0 }
+}
+
 // The ending, where it goes before this code.
 fn end_line(o: Settings, held: Record, moves: bool, out: &mut [u8]) -> Noted
-    requires { ⌜ 16 ≤ length (now out) ⌝ }
-    ensures { λ r. ⌜
-        (r .count ≤ 16) × Notes o held (ending o held (moves && due o (held .column))) (now (out .entry)) (now (out .exit)) r
-        ⌝ }
+    requires { ⌜ length (ending o held (moves && due o (held .column))) ≤ length (now out) ⌝ }
+    ensures { λ r. ⌜ Notes o held (ending o held (moves && due o (held .column))) (now (out .entry)) (now (out .exit)) r ⌝ }
 {
     let col = held.column;
     let string = o.string;
@@ -49,9 +64,25 @@ fn end_line(o: Settings, held: Record, moves: bool, out: &mut [u8]) -> Noted
     Noted { held, count: 0 }
 }
 
+// A character asked for, counted: the ending that is due, then the code with its shifts.
+fn count_character(o: Settings, held: Record, w: Wanted, k: Kind) -> Noted
+    requires { ⌜ k ≡ kindOf (w .code) ⌝ }
+    ensures { λ r. ⌜ (r .count ≤ 18) × (r ≡ noted o held (character o held w)) ⌝ }
+{
+    let case = w.case;
+    let ended = count_end(o, held, code::moves(case, k));
+    let then = ended.held;
+    let known = then.case;
+    let m = count_code(o, known, case, k);
+    Noted {
+        held: after(o, then, case, k),
+        count: ended.count + m,
+    }
+}
+
 // A character asked for: the ending that is due, then the code with its shifts.
 fn put_character(o: Settings, held: Record, w: Wanted, k: Kind, out: &mut [u8]) -> Noted
-    requires { ⌜ (k ≡ kindOf (w .code)) × (most ≤ length (now out)) ⌝ }
+    requires { ⌜ (k ≡ kindOf (w .code)) × (length (character o held w) ≤ length (now out)) ⌝ }
     ensures { λ r. ⌜ Notes o held (character o held w) (now (out .entry)) (now (out .exit)) r ⌝ }
 {
     let case = w.case;
@@ -116,9 +147,31 @@ fn is_dropped(o: Settings, this: Last, was: Last) -> bool
     if repeats(this, was) { o.filter } else { false }
 }
 
+// One item, counted.
+pub fn count_item(o: Settings, s: Sender, w: Wanted) -> Item
+    ensures { λ r. ⌜ (r .count ≤ 18) × (r ≡ counted o s (w ∷ [])) ⌝ }
+{
+    let held = s.held;
+    let before = s.last;
+    let k = code::kind_of(w.code);
+    let last = last_of(k);
+    if is_dropped(o, last, before) {
+        return Item {
+            sender: Sender { held, last },
+            count: 0,
+        };
+    }
+    let x = count_character(o, held, w, k);
+    let noted = x.held;
+    Item {
+        sender: Sender { held: noted, last },
+        count: x.count,
+    }
+}
+
 // One item.
 pub fn put_item(o: Settings, s: Sender, w: Wanted, out: &mut [u8]) -> Item
-    requires { ⌜ most ≤ length (now out) ⌝ }
+    requires { ⌜ length (items o s (w ∷ [])) ≤ length (now out) ⌝ }
     ensures { λ r. ⌜ Puts o s (w ∷ []) (now (out .entry)) (now (out .exit)) r ⌝ }
 {
     let held = s.held;

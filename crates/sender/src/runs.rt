@@ -1,16 +1,18 @@
-// Bytes sent one after the other, as long as the buffer has room for whatever the next may be.
+// Bytes sent one after the other, as long as the buffer has room for all codes of the next.
 ghost use mathlib.Core.Path.{_≡_};
 ghost use mathlib.Core.Bool.{_&&_};
 ghost use Prim.Native.Nat.{_≤_, _<_};
+ghost use lib.Dec.{leb};
 ghost use lib.ListN.{length};
 ghost use Rattle.convert.specs.Entry.{Tabled};
-ghost use Rattle.sender.specs.Item.{wantedOf, unshiftedBy, incoming};
-ghost use Rattle.sender.specs.Sends.{converted, isNone, wantedAs, asksNext, isSpecial, most, Puts, sends, Sends};
+ghost use Rattle.sender.specs.Item.{items, wantedOf, unshiftedBy, incoming};
+ghost use Rattle.sender.specs.Sends.{counted, converted, isNone, wantedAs, asksNext, isSpecial, Puts, sends, Sends};
 use crate::Asks;
 use crate::Item;
 use crate::Sender;
 use crate::Sent;
 use crate::Wanted;
+use crate::items::count_item;
 use crate::items::put_item;
 use code::Case;
 use code::Conversion;
@@ -25,7 +27,7 @@ fn unshifted_by(on: bool, case: Case) -> Case
 }
 
 // Mode 4's incoming reading case after a code of this kind.
-fn incoming(o: Settings, case: Case, k: Kind) -> Case
+pub fn incoming(o: Settings, case: Case, k: Kind) -> Case
     ensures { λ r. ⌜ r ≡ incoming o case k ⌝ }
 {
     match k {
@@ -103,9 +105,41 @@ fn stops(plain: bool, asks: Asks, b: u8) -> bool
     if plain { is_special(asks, b) } else { false }
 }
 
+// The item of a byte, if it has a code, counted.
+fn count_asked(o: Settings, s: Sender, x: Conversion) -> Item
+    ensures { λ r. ⌜ (r .count ≤ 18) × (r ≡ counted o s (wantedOf x)) ⌝ }
+{
+    if is_none(x) {
+        return Item {
+            sender: s,
+            count: 0,
+        };
+    }
+    count_item(o, s, wanted_as(x))
+}
+
+// How many codes a byte is, and the sender after it.
+pub fn count(o: Settings, s: Sender, asks: Asks, b: u8) -> Item
+    ensures { λ r. ⌜ (r .count ≤ 18) × (r ≡ counted o s (wantedOf (converted asks b))) ⌝ }
+{
+    let table = convert::table();
+    count_asked(o, s, convert_as(asks, &table, b))
+}
+
+// Whether a byte's codes have room: no byte is more than eighteen, and with fewer places free they are counted.
+fn has_room(o: Settings, s: Sender, x: Conversion, room: usize) -> bool
+    ensures { λ r. ⌜ r ≡ leb (length (items o s (wantedOf x))) room ⌝ }
+{
+    if 18 <= room {
+        return true;
+    }
+    let y = count_asked(o, s, x);
+    y.count <= room
+}
+
 // The item of a byte, if it has a code.
 fn put_asked(o: Settings, s: Sender, x: Conversion, out: &mut [u8]) -> Item
-    requires { ⌜ most ≤ length (now out) ⌝ }
+    requires { ⌜ length (items o s (wantedOf x)) ≤ length (now out) ⌝ }
     ensures { λ r. ⌜ Puts o s (wantedOf x) (now (out .entry)) (now (out .exit)) r ⌝ }
 {
     if is_none(x) {
@@ -148,14 +182,14 @@ pub fn send(
     let mut taken = 0;
     let mut count = 0;
     while taken < bytes.len() {
-        if out.len() - count < 18 {
-            return sent(sender, asks, taken, count);
-        }
         let b = bytes[taken];
         if stops(plain, asks, b) {
             return sent(sender, asks, taken, count);
         }
         let x = convert_as(asks, &table, b);
+        if !has_room(o, sender, x, out.len() - count) {
+            return sent(sender, asks, taken, count);
+        }
         let y = put_asked(o, sender, x, &mut out[count..]);
         asks = next_asks(o, asks, b);
         sender = y.sender;

@@ -1,6 +1,5 @@
 pub mod Bytes
 pub mod Modes
-pub mod Most
 pub mod Sent
 pub mod Answered
 pub mod Stays

@@ -1,75 +1,73 @@
--- Bytes sent into a buffer with room for whatever they may be: all are taken, and the codes are those of their items.
+-- What is counted first and then sent where it fits: all of it is taken, and the codes are those of its items.
 -- Assumes nothing.
-use Prim.Native.Nat.{ℕ, _*_, _-_, _≤_}
+use Prim.Native.Nat.{ℕ, _+_, _-_, _≤_, _<_}
 use mathlib.Core.Path.{_≡_, refl, sym, ap, _∙_}
 use mathlib.Core.Bool.{Bool, true, false}
-use mathlib.Core.List.{List, [], _∷_, append-nil}
+use mathlib.Core.List.{List, [], _∷_, _++_, append-nil}
 use native.Mathlib.Omega.{arith}
-use borrow.Author.Tests.{le-ltb}
-use lib.ListN.{length, length-append, take}
-use lib.Seq.{take-at}
+use borrow.Author.Tests.{le-leb, lt-leb}
+use lib.ListN.{length, length-append}
 use Rattle.code.specs.declared.Conversion.{Conversion}
 use Rattle.code.specs.declared.Conversion.the-variants.{Nothing, Free, Cased}
 use Rattle.code.specs.Convert.{conversion}
-use Rattle.code.specs.Kinds.{kindOf}
+use Rattle.sender.specs.declared.Item.{Item}
 use Rattle.sender.specs.declared.Sent.{Sent}
-use Rattle.sender.specs.Item.{items, afterItems, wanted, wantedOf, incoming}
-use Rattle.sender.specs.Sends.{Run, sends as codesSent, Sends}
-use Rattle.step.proofs.Most.{byte-most}
+use Rattle.sender.specs.Item.{items, afterItems, wanted, wantedOf}
+use Rattle.sender.specs.Sends.{counted, Run, sends as codesSent, Sends}
 use Rattle.sender.proofs.Sends.{items-append, after-append}
-use Rattle.settings.specs.Laws.{Sound}
-use Rattle.step.specs.Names.{Case, Settings, Sender, Asks, Text, Codes, State, Took}
-use Rattle.step.specs.State.{withSender, withIncoming}
-use Rattle.step.specs.Step.{sends, asked, released, carried}
-use Rattle.step.specs.Byte.{Puts}
-use Rattle.step.specs.Step.{caseOf}
+use Rattle.step.specs.Names.{Case, Settings, Wanted, Sender, Text, Codes, State}
+use Rattle.step.specs.State.{withSender}
+use Rattle.step.specs.Step.{sends, asked, released}
+use Rattle.step.specs.Byte.{Puts, noRoom}
 
 module _ (o : Settings) where
   -- host text
-  pub text-sent : length (o .string) ≡ 8 → (s : Sender) (bs : List ℕ) (room : ℕ) → 18 * length bs ≤ room
-      → codesSent o s Text false bs room ≡ record { sender = afterItems o s (asked bs); asks = Text; taken = length bs; codes = items o s (asked bs) }
-  text-sent eight s [] room h = refl
-  text-sent eight s (b ∷ bs) room h =
+  pub text-sent : (s : Sender) (bs : List ℕ) (room : ℕ) → length (items o s (asked bs)) ≤ room
+      → codesSent o s Text false bs room .codes ≡ items o s (asked bs)
+  text-sent s [] room h = refl
+  text-sent s (b ∷ bs) room h =
       let ws = wantedOf (conversion b) in
       let cs = items o s ws in
-      let u : 18 ≤ room = omega (arith, h) in
-      let v : 18 * length bs ≤ room - length cs = omega (arith, h, byte-most o eight s (conversion b)) in
-      rw (le-ltb room 18 u, text-sent eight (afterItems o s ws) bs (room - length cs) v, items-append o s ws (asked bs), after-append o s ws (asked bs))
+      let more = items o (afterItems o s ws) (asked bs) in
+      let l : length (items o s (ws ++ asked bs)) ≡ length cs + length more = ap length (items-append o s ws (asked bs)) ∙ length-append cs more in
+      let u : length cs ≤ room = omega (arith, h, l) in
+      let v : length more ≤ room - length cs = omega (arith, h, l) in
+      rw (le-leb (length cs) room u, text-sent (afterItems o s ws) bs (room - length cs) v, items-append o s ws (asked bs))
 
   -- one TU code
-  pub code-sent : (s : Sender) (case : Case) (c room : ℕ) → 18 ≤ room
-      → codesSent o s (Codes case) false (c ∷ []) room
-      ≡ record { sender = afterItems o s (wanted case c ∷ []); asks = Codes (incoming o case (kindOf c)); taken = 1; codes = items o s (wanted case c ∷ []) }
-  code-sent s case c room h = rw (le-ltb room 18 h, append-nil (items o s (wanted case c ∷ [])))
+  pub code-sent : (s : Sender) (case : Case) (c room : ℕ) → length (items o s (wanted case c ∷ [])) ≤ room
+      → codesSent o s (Codes case) false (c ∷ []) room .codes ≡ items o s (wanted case c ∷ [])
+  code-sent s case c room h = rw (le-leb (length (items o s (wanted case c ∷ []))) room h, append-nil (items o s (wanted case c ∷ [])))
 
--- what was sent into a buffer apart, and put from there
-module _ (d : Run) (apart codes old now : List ℕ) (x : Sent) (t : State) (r : Took) where
-  sent-puts : (after : Sender → Asks → State) → Sends d apart codes x → t ≡ after (x .sender) (x .asks) → Puts t (take (x .count) codes) old now r → Puts (after (d .sender) (d .asks)) (d .codes) old now r
-  sent-puts after p e q =
-      let f : take (x .count) codes ≡ d .codes = rw (p .places .places) (take-at (d .codes) _ (x .count) (sym (p .places .count))) in
-      let g : t ≡ after (d .sender) (d .asks) = e ∙ ap (λ (y : Sent). after (y .sender) (y .asks)) (p .gives) in
-      rw (f, g) at q
+  -- two bytes counted one after the other
+  pub text-counted : (s : Sender) (b c : ℕ) (x y : Item) → x ≡ counted o s (wantedOf (conversion b)) → y ≡ counted o (x .sender) (wantedOf (conversion c))
+      → record { sender = y .sender; count = x .count + y .count } ≡ counted o s (asked (b ∷ c ∷ []))
+  text-counted s b c x y e f =
+      let ws = wantedOf (conversion b) in
+      let vs = wantedOf (conversion c) in
+      rw (f, e, append-nil vs, items-append o s ws vs, after-append o s ws vs, length-append (items o s ws) (items o (afterItems o s ws) vs))
 
--- at most two bytes
-two-bytes : (slash : Bool) (b : ℕ) → 18 * length (released slash b) ≤ 36
-two-bytes false b = omega arith
-two-bytes true b = omega arith
+-- what does not fit
+pub unfit : (t : State) (new old : List ℕ) → length old < length new → Puts t new old old (noRoom t)
+unfit t new old h = record { fits = rw (lt-leb (length new) (length old) h); state = refl; count = refl; places = refl }
 
-module _ (s : State) (apart codes old now : List ℕ) (x : Sent) (t : State) (r : Took) where
-  -- text, and the `/` before it
-  pub text-puts : Sound (s .settings) (s .connection) → 36 ≤ length apart → (slash : Bool) (b : ℕ)
-      → Sends (codesSent (s .settings) (s .sender) Text false (released slash b) (length apart)) apart codes x → t ≡ withSender s (x .sender) → Puts t (take (x .count) codes) old now r
-      → Puts (sends s (asked (released slash b)) .state) (sends s (asked (released slash b)) .line) old now r
-  text-puts h room slash b p e q =
-      let u : 18 * length (released slash b) ≤ length apart = omega (arith, two-bytes slash b) in
-      sent-puts _ apart codes old now x t r (λ y z. withSender s y) (rw (text-sent (s .settings) (h .places) (s .sender) (released slash b) (length apart) u) at p) e q
+-- items counted before they are sent
+module _ (s : State) (ws : List Wanted) (x : Item) (e : x ≡ counted (s .settings) (s .sender) ws) (t : State) (f : t ≡ withSender s (x .sender)) (old : List ℕ) where
+  counts : x .count ≡ length (sends s ws .line)
+  counts = ap (λ (u : Item). u .count) e
 
-  -- one TU code
-  pub code-puts : 18 ≤ length apart → (c : ℕ)
-      → Sends (codesSent (s .settings) (s .sender) (Codes (s .incoming)) false (c ∷ []) (length apart)) apart codes x → t ≡ withSender (withIncoming s (caseOf (x .asks))) (x .sender)
-      → Puts t (take (x .count) codes) old now r → Puts (carried s c .state) (carried s c .line) old now r
-  code-puts room c p e q =
-      sent-puts _ apart codes old now x t r (λ y z. withSender (withIncoming s (caseOf z)) y) (rw (code-sent (s .settings) (s .sender) (s .incoming) c (length apart) room) at p) e q
+  after : t ≡ sends s ws .state
+  after = f ∙ ap (λ (u : Item). withSender s (u .sender)) e
+
+  pub held-back : length old < x .count → Puts (sends s ws .state) (sends s ws .line) old old (noRoom t)
+  held-back h = rw after (unfit (sends s ws .state) (sends s ws .line) old (omega (arith, h, counts)))
+
+  pub put : (d : Run) (now : List ℕ) (y : Sent) → x .count ≤ length old → (length (sends s ws .line) ≤ length old → d .codes ≡ sends s ws .line) → Sends d old now y
+      → Puts (sends s ws .state) (sends s ws .line) old now (record { fits = true; state = t; count = y .count })
+  put d now y h same p =
+      let u : length (sends s ws .line) ≤ length old = omega (arith, h, counts) in
+      let q = rw (same u) at (p .places) in
+      record { fits = rw (le-leb (length (sends s ws .line)) (length old) u); state = after; count = q .count; places = q .places }
 
 -- at most two items
 one-wanted : (x : Conversion) → length (wantedOf x) ≤ 1

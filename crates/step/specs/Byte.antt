@@ -1,7 +1,7 @@
 -- What putting one byte's output into the free parts of the lent buffers gives.
 use Prim.Native.Nat.{ℕ}
 use mathlib.Core.Path.{_≡_}
-use mathlib.Core.Bool.{Bool, true, cond, _&&_}
+use mathlib.Core.Bool.{Bool, true, false, cond, _&&_}
 use mathlib.Core.List.{List, []}
 use lib.Dec.{leb}
 use lib.ListN.{length}
@@ -44,6 +44,10 @@ pub record Offers (t : Stream) (x : Step) (old₁ old₂ now₁ now₂ : List �
 -- nothing to put
 abbrev pub none : State → Took
 none s = record { fits = true; state = s; count = 0 }
+
+-- something that does not fit
+abbrev pub noRoom : State → Took
+noRoom s = record { fits = false; state = s; count = 0 }
 
 -- what went into the first buffer, or the second, is all there is
 abbrev pub inFirst : Took → Taken

@@ -1,25 +1,42 @@
-// Items to the line, when the buffer may be short: their codes are made apart, and put into its free part if all fit.
+// A byte's codes to the line, into the free part of the buffer itself: counted first, and sent where all of them fit.
 ghost use mathlib.Core.Path.{_≡_};
 ghost use mathlib.Core.Bool.{false};
 ghost use lib.ListN.{length};
-ghost use Rattle.settings.specs.Laws.{Sound};
-ghost use Rattle.sender.specs.Sends.{sends as codesSent, Sends};
+ghost use Rattle.sender.specs.Sends.{counted, sends as codesSent, Sends};
 ghost use Rattle.step.specs.Names.{Text as Names·Text};
 ghost use Rattle.step.specs.Step.{sends, asked, text, released, carried, caseOf, tuStep};
 ghost use Rattle.step.specs.Byte.{Puts};
 ghost use Rattle.step.specs.Step.{caseOf};
 use crate::State;
 use crate::Took;
+use crate::puts::no_room;
 use crate::puts::none;
-use crate::puts::put_codes;
 use crate::states::with_incoming;
 use crate::states::with_sender;
 use code::Case;
 use sender::Asks;
+use sender::Item;
 use sender::Sender;
 use sender::Sent;
 use settings::Connection;
 use settings::Settings;
+
+// How many codes text is, and the sender after it: the byte, and before it the `/` where that was held.
+fn count_text(o: Settings, s: Sender, slash: bool, b: u8) -> Item
+    ensures { λ r. ⌜ r ≡ counted o s (asked (released slash b)) ⌝ }
+{
+    if slash {
+        let x = sender::runs::count(o, s, Asks::Text, b'/');
+        let between = x.sender;
+        let y = sender::runs::count(o, between, Asks::Text, b);
+        let after = y.sender;
+        return Item {
+            sender: after,
+            count: x.count + y.count,
+        };
+    }
+    sender::runs::count(o, s, Asks::Text, b)
+}
 
 // Text sent: the byte, and before it the `/` where that was held.
 fn send_text(o: Settings, s: Sender, slash: bool, b: u8, out: &mut [u8]) -> Sent
@@ -37,23 +54,28 @@ fn send_text(o: Settings, s: Sender, slash: bool, b: u8, out: &mut [u8]) -> Sent
 
 // Text to a line in mode 1.
 fn put_items(s: State, slash: bool, b: u8, out: &mut [u8]) -> Took
-    requires { ⌜ Sound (s .settings) (s .connection) ⌝ }
     ensures { λ r. ⌜
         Puts (sends s (asked (released slash b)) .state) (sends s (asked (released slash b)) .line) (now (out .entry)) (now (out .exit)) r
         ⌝ }
 {
     let settings = s.settings;
     let sender = s.sender;
-    let mut codes = [0u8; 36];
-    let x = send_text(settings, sender, slash, b, &mut codes);
+    let x = count_text(settings, sender, slash, b);
     let after = x.sender;
-    let n = x.count;
-    put_codes(with_sender(s, after), &codes, n, out)
+    let next = with_sender(s, after);
+    if out.len() < x.count {
+        return no_room(next);
+    }
+    let y = send_text(settings, sender, slash, b, out);
+    Took {
+        fits: true,
+        state: next,
+        count: y.count,
+    }
 }
 
 // Text to the line in mode 1; in the others it is dropped.
 pub fn put_text(s: State, slash: bool, b: u8, out: &mut [u8]) -> Took
-    requires { ⌜ Sound (s .settings) (s .connection) ⌝ }
     ensures { λ r. ⌜
         Puts (sends s (text (s .connection) (released slash b)) .state) (sends s (text (s .connection) (released slash b)) .line) (now (out .entry)) (now (out .exit)) r
         ⌝ }
@@ -84,18 +106,20 @@ fn put_code(s: State, c: u8, out: &mut [u8]) -> Took
     let settings = s.settings;
     let sender = s.sender;
     let case = s.incoming;
-    let one = [c];
-    let mut codes = [0u8; 18];
-    let x = sender::runs::send(settings, sender, Asks::Codes(case), false, &one, &mut codes);
+    let x = sender::runs::count(settings, sender, Asks::Codes(case), c);
     let after = x.sender;
-    let asks = x.asks;
-    let n = x.count;
-    put_codes(
-        with_sender(with_incoming(s, case_of(asks)), after),
-        &codes,
-        n,
-        out,
-    )
+    let then = sender::runs::incoming(settings, case, code::kind_of(c));
+    let next = with_sender(with_incoming(s, then), after);
+    if out.len() < x.count {
+        return no_room(next);
+    }
+    let one = [c];
+    let y = sender::runs::send(settings, sender, Asks::Codes(case), false, &one, out);
+    Took {
+        fits: true,
+        state: next,
+        count: y.count,
+    }
 }
 
 // One TU code, with the part of the line buffer that is free: to the printer in mode 4, and dropped in the others.

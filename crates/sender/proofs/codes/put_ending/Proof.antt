@@ -1,5 +1,4 @@
--- `sender::codes::put_ending` meets its contract. The invariant: the codes sent so far stand before the rest of the string, at most two for
--- each of the string's.
+-- `sender::codes::put_ending` meets its contract. The invariant: the codes sent so far stand before the rest of the string.
 -- Assumes nothing.
 use Prim.Native.Nat.{_≤_, _<_, _+_, _-_}
 use mathlib.Core.Path.{_≡_, refl}
@@ -7,13 +6,14 @@ use native.Mathlib.Omega.{arith}
 use denote.Ref.{now}
 use lib.ListN.{length}
 use Rattle.laws.proofs.Filled.{free-length}
-use Rattle.sender.proofs.Endings.{Ending, ending-start, ending-zero, ending-over, ending-turn}
+use Rattle.sender.specs.Ending.{endingOf, untilZero}
+use Rattle.sender.proofs.Endings.{Ending, ending-start, at-zero, at-end, ending-over, ending-room, ending-turn}
 use borrow.Author.Needs.{needs}
 use Rattle.sender.proofs.codes.put_ending.Statement.{statement}
 use Rattle.sender.proofs.codes.put_ending.Tie as tie
 
 abbrev Inv-loop : tie.InvT-loop
-Inv-loop o out₀ string held₀ count₀ i₀ out held count i = (16 ≤ length out₀) × Ending o held₀ string out₀ held i out count
+Inv-loop o out₀ string held₀ count₀ i₀ out held count i = (length (endingOf o held₀ (untilZero string)) ≤ length out₀) × Ending o held₀ string out₀ held i out count
 
 abbrev μ-loop : tie.MeasureT-loop
 μ-loop o out₀ string held₀ count₀ i₀ out held count i = 8 - i
@@ -26,17 +26,21 @@ loop-holds c =
 array-read-c : tie.Need-array-read-c Inv-loop μ-loop
 array-read-c c = search needs
 
+is-end-requires : tie.Need-is-end-requires Inv-loop μ-loop
+is-end-requires c κs = search needs
+
 same-length : tie.Need-same-length Inv-loop μ-loop
 same-length c = search needs
 
 returns : tie.Need-returns Inv-loop μ-loop
 returns c =
-    let l = c .before .before .loop in
-    let b = c .before .before .before .before in
+    let m = c .before .before .before in
+    let l = m .loop in
+    let b = m .before .before in
     let a = b .args in
     let n : length (a .t3) ≡ 8 = b .good .1 .1 .0 .1 .0 .1 in
-    let h : l .i < length (a .t3) = omega (arith, n, c .before .loop-test .taken) in
-    (omega (arith, l .inv .1 .few, l .inv .1 .within), ending-zero (a .o) (a .start) (a .t3) (now (a .out)) (l .held) (l .i) (l .out) (l .count) (l .inv .1) h (c .if1 .taken))
+    let h : l .i < length (a .t3) = omega (arith, n, c .before .before .loop-test .taken) in
+    ending-over (a .o) (a .start) (a .t3) (l .held) (l .i) (now (a .out)) (l .out) (l .count) (l .inv .1) (at-zero (a .o) (a .start) (a .t3) (l .held) (l .i) h (rw (c .before .is-end .ensures) at (c .if1 .taken)))
 
 on-record-requires : tie.Need-on-record-requires Inv-loop μ-loop
 on-record-requires c κs = search needs
@@ -55,9 +59,16 @@ part-put-code-end c = search needs
 
 put-code-requires : tie.Need-put-code-requires Inv-loop μ-loop
 put-code-requires c κs =
-    let m = c .before .before .before .before .before in
+    let k = c .before in
+    let e = k .before .before in
+    let m = e .before .before .before in
     let l = m .loop in
-    rw (free-length (l .out) (l .count)) (omega (arith, l .inv .0, l .inv .1 .few, l .inv .1 .places .same-length, c .before .before .before .before .loop-test .taken))
+    let b = m .before .before in
+    let a = b .args in
+    let n : length (a .t3) ≡ 8 = b .good .1 .1 .0 .1 .0 .1 in
+    let h : l .i < length (a .t3) = omega (arith, n, e .before .before .loop-test .taken) in
+    rw (free-length (l .out) (l .count), k .before .on-record .ensures, k .kind-of .ensures)
+    (ending-room (a .o) (a .start) (a .t3) (l .held) (l .i) (e .before .before .loop-test .taken) h (rw (e .before .is-end .ensures) at (e .if1 .left)) (now (a .out)) (l .out) (l .count) (l .inv .1) (l .inv .0))
 
 after-requires : tie.Need-after-requires Inv-loop μ-loop
 after-requires c κs = search needs
@@ -76,14 +87,14 @@ loop-again c =
     let p = c .before .before .before in
     let k = p .before .before in
     let e = k .before .before in
-    let m = e .before .before in
+    let m = e .before .before .before in
     let l = m .loop in
     let b = m .before .before in
     let a = b .args in
     let n : length (a .t3) ≡ 8 = b .good .1 .1 .0 .1 .0 .1 in
-    let h : l .i < length (a .t3) = omega (arith, n, e .before .loop-test .taken) in
+    let h : l .i < length (a .t3) = omega (arith, n, e .before .before .loop-test .taken) in
     rw (c .after .ensures, k .before .on-record .ensures, k .kind-of .ensures)
-    (l .inv .0, ending-turn (a .o) (a .start) (a .t3) (now (a .out)) (l .held) (l .i) (l .out) (l .count) (l .inv .1) (e .before .loop-test .taken) h (e .if1 .left) _ _ (rw (k .before .on-record .ensures, k .kind-of .ensures) at (p .put-code .ensures)))
+    (l .inv .0, ending-turn (a .o) (a .start) (a .t3) (l .held) (l .i) (e .before .before .loop-test .taken) h (rw (e .before .is-end .ensures) at (e .if1 .left)) (now (a .out)) (l .out) _ (l .count) _ (l .inv .1) (rw (k .before .on-record .ensures, k .kind-of .ensures) at (p .put-code .ensures)))
 
 same-length-2 : tie.Need-same-length-2 Inv-loop μ-loop
 same-length-2 c = search needs
@@ -95,7 +106,7 @@ returns-2 c =
     let a = b .args in
     let n : length (a .t3) ≡ 8 = b .good .1 .1 .0 .1 .0 .1 in
     let h : length (a .t3) ≤ l .i = omega (arith, n, c .loop-test .left) in
-    (omega (arith, l .inv .1 .few, l .inv .1 .within), ending-over (a .o) (a .start) (a .t3) (now (a .out)) (l .held) (l .i) (l .out) (l .count) (l .inv .1) h)
+    ending-over (a .o) (a .start) (a .t3) (l .held) (l .i) (now (a .out)) (l .out) (l .count) (l .inv .1) (at-end (a .o) (a .start) (a .t3) (l .held) (l .i) h)
 
 pub put-ending-spec : {M : Type 1} → statement M
 put-ending-spec =
@@ -105,6 +116,7 @@ put-ending-spec =
     μ-loop
     loop-holds
     array-read-c
+    is-end-requires
     same-length
     returns
     on-record-requires

@@ -1,10 +1,9 @@
 -- `sender::items::put_character` meets its contract: the code goes after the ending, and the record notes both.
 -- Assumes nothing.
-use Prim.Native.Nat.{_+_, _≤_}
 use native.Mathlib.Omega.{arith}
 use denote.Ref.{now}
-use Rattle.sender.proofs.OneItem.{character-put}
-use Rattle.sender.proofs.Few.{kind-length}
+use Rattle.laws.proofs.Filled.{free-length}
+use Rattle.sender.proofs.OneItem.{ending-room, character-room, character-put}
 use borrow.Author.Needs.{needs}
 use Rattle.sender.proofs.items.put_character.Statement.{statement}
 use Rattle.sender.proofs.items.put_character.Tie as tie
@@ -13,7 +12,11 @@ moves-requires : tie.Need-moves-requires
 moves-requires c κs = search needs
 
 end-line-requires : tie.Need-end-line-requires
-end-line-requires c κs = search needs
+end-line-requires c κs =
+    let m = c .before in
+    let b = m .before .before in
+    let a = b .args in
+    rw (m .moves .ensures) (ending-room (a .o) (a .held) (a .w) (a .k) (b .pre .0) _ (b .pre .1))
 
 sub-put-code : tie.Need-sub-put-code
 sub-put-code c = search needs
@@ -25,7 +28,14 @@ part-put-code-end : tie.Need-part-put-code-end
 part-put-code-end c = search needs
 
 put-code-requires : tie.Need-put-code-requires
-put-code-requires c κs = search needs
+put-code-requires c κs =
+    let e = c .before .before .before .before in
+    let m = e .before .before in
+    let b = m .before .before in
+    let a = b .args in
+    let f = rw (m .moves .ensures) at (e .end-line .ensures) in
+    let x = e .end-line .result in
+    rw (free-length _ (x .count)) (character-room (a .o) (a .held) (a .w) (a .k) (b .pre .0) (x .held) (f .held) (now (a .out)) _ (x .count) (f .places) (b .pre .1))
 
 after-requires : tie.Need-after-requires
 after-requires c κs = search needs
@@ -34,9 +44,12 @@ add-t17 : tie.Need-add-t17
 add-t17 c =
     let p = c .before .before .before in
     let e = p .before .before .before .before .before in
-    let a = e .before .before .before .before .args in
-    let h : e .end-line .result .count + p .put-code .result ≤ 18 = omega (arith, e .end-line .ensures .0, p .put-code .ensures .count, kind-length (a .o) (e .end-line .result .held .case) (a .w .case) (a .w .code) (a .k)) in
-    search needs
+    let m = e .before .before in
+    let b = m .before .before in
+    let a = b .args in
+    let f = rw (m .moves .ensures) at (e .end-line .ensures) in
+    let q = character-put (a .o) (a .held) (a .w) (a .k) (b .pre .0) _ (f .held) (now (a .out)) _ _ _ _ (f .places) (p .put-code .ensures) in
+    omega (arith, q .places .room, b .good)
 
 same-length : tie.Need-same-length
 same-length c = search needs
@@ -48,8 +61,8 @@ returns c =
     let m = e .before .before in
     let b = m .before .before in
     let a = b .args in
-    rw (c .after .ensures)
-    (character-put (a .o) (a .held) (a .w) (a .k) (now (a .out)) _ _ (e .end-line .result) _ (b .pre .0) (rw (m .moves .ensures) at (e .end-line .ensures .1)) (p .put-code .ensures))
+    let f = rw (m .moves .ensures) at (e .end-line .ensures) in
+    rw (c .after .ensures) (character-put (a .o) (a .held) (a .w) (a .k) (b .pre .0) _ (f .held) (now (a .out)) _ _ _ _ (f .places) (p .put-code .ensures))
 
 pub put-character-spec : {M : Type 1} → statement M
 put-character-spec =

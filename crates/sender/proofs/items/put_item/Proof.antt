@@ -1,7 +1,7 @@
 -- `sender::items::put_item` meets its contract: a dropped item is no code, any other its character.
 -- Assumes nothing.
 use denote.Ref.{now}
-use Rattle.sender.proofs.OneItem.{item-dropped, item-sent}
+use Rattle.sender.proofs.OneItem.{item-dropped, item-room, item-sent}
 use borrow.Author.Needs.{needs}
 use Rattle.sender.proofs.items.put_item.Statement.{statement}
 use Rattle.sender.proofs.items.put_item.Tie as tie
@@ -22,7 +22,12 @@ returns c =
     item-dropped (a .o) (a .s) (a .w) _ _ (d .kind-of .ensures) (c .before .before .last-of .ensures) (rw (c .before .is-dropped .ensures) at (c .if1 .taken)) (now (a .out))
 
 put-character-requires : tie.Need-put-character-requires
-put-character-requires c κs = search needs
+put-character-requires c κs =
+    let e = c .before in
+    let d = e .before .before .before in
+    let b = d .before .before .before in
+    let a = b .args in
+    (d .kind-of .ensures, item-room (a .o) (a .s) (a .w) _ _ (d .kind-of .ensures) (e .before .before .last-of .ensures) (rw (e .before .is-dropped .ensures) at (e .if1 .left)) _ (b .pre))
 
 same-length : tie.Need-same-length
 same-length c = search needs

@@ -20,7 +20,10 @@ wanted-as-requires : tie.Need-wanted-as-requires
 wanted-as-requires c κs = search needs
 
 put-item-requires : tie.Need-put-item-requires
-put-item-requires c κs = search needs
+put-item-requires c κs =
+    let w = c .before in
+    let b = w .before .before .before .before in
+    rw (w .wanted-as .ensures) (rw (one-wanted (b .args .x) (rw (w .before .before .is-none .ensures) at (w .before .if1 .left))) at (b .pre))
 
 same-length : tie.Need-same-length
 same-length c = search needs

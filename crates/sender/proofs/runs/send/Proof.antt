@@ -1,10 +1,11 @@
 -- `sender::runs::send` meets its contract. The invariant: the bytes taken and their codes stand before what the rest gives.
 -- Assumes nothing.
 use Prim.Native.Nat.{_≤_, _<_, _+_, _-_}
-use mathlib.Core.Path.{_≡_}
+use mathlib.Core.Path.{_≡_, _∙_, sym}
 use native.Mathlib.Omega.{arith}
 use denote.Ref.{now}
 use lib.ListN.{length, getD}
+use borrow.Author.Tests.{leb-true, not-true, not-false}
 use Rattle.laws.proofs.Filled.{free-length}
 use Rattle.sender.proofs.Sending.{Sending, sending, all-sent, no-room, at-special, sends-on}
 use borrow.Author.Needs.{needs}
@@ -25,8 +26,11 @@ loop-holds c =
     let a = c .before .before .before .args in
     sending (a .o) (a .start) (a .first) (a .plain) (now (a .bytes)) (now (a .out))
 
-sub-if1 : tie.Need-sub-if1 Inv-loop μ-loop
-sub-if1 c = search needs
+shared-slice-read-b : tie.Need-shared-slice-read-b Inv-loop μ-loop
+shared-slice-read-b c = search needs
+
+stops-requires : tie.Need-stops-requires Inv-loop μ-loop
+stops-requires c κs = search needs
 
 sent-requires : tie.Need-sent-requires Inv-loop μ-loop
 sent-requires c κs = search needs
@@ -36,18 +40,25 @@ same-length c = search needs
 
 returns : tie.Need-returns Inv-loop μ-loop
 returns c =
-    let e = c .before in
-    let m = e .before .before in
+    let f = c .before in
+    let t = f .before .before .before in
+    let m = t .before in
     let l = m .loop in
     let a = m .before .before .before .before .args in
     rw (c .sent .ensures)
-    (no-room (a .o) (a .start) (a .first) (a .plain) (now (a .bytes)) (now (a .out)) (l .sender) (l .asks) (l .taken) (l .out) (l .count) (l .inv) (e .before .loop-test .taken) (e .if1 .taken))
+    (at-special (a .o) (a .start) (a .first) (a .plain) (now (a .bytes)) (now (a .out)) (l .sender) (l .asks) (l .taken) (l .out) (l .count) (l .inv) (t .loop-test .taken) (rw (f .before .stops .ensures) at (f .if1 .taken)))
 
-shared-slice-read-b : tie.Need-shared-slice-read-b Inv-loop μ-loop
-shared-slice-read-b c = search needs
+slice-aggregate-convert-as : tie.Need-slice-aggregate-convert-as Inv-loop μ-loop
+slice-aggregate-convert-as c = search needs
 
-stops-requires : tie.Need-stops-requires Inv-loop μ-loop
-stops-requires c κs = search needs
+convert-as-requires : tie.Need-convert-as-requires Inv-loop μ-loop
+convert-as-requires c κs = c .before .before .before .before .before .before .table .ensures
+
+sub-has-room : tie.Need-sub-has-room Inv-loop μ-loop
+sub-has-room c = search needs
+
+has-room-requires : tie.Need-has-room-requires Inv-loop μ-loop
+has-room-requires c κs = search needs
 
 sent-requires-2 : tie.Need-sent-requires-2 Inv-loop μ-loop
 sent-requires-2 c κs = search needs
@@ -57,19 +68,16 @@ same-length-2 c = search needs
 
 returns-2 : tie.Need-returns-2 Inv-loop μ-loop
 returns-2 c =
-    let f = c .before in
-    let e = f .before .before .before in
-    let m = e .before .before in
+    let g = c .before in
+    let h = g .before in
+    let v = h .before in
+    let f = v .before .before in
+    let t = f .before .before .before in
+    let m = t .before in
     let l = m .loop in
     let a = m .before .before .before .before .args in
     rw (c .sent2 .ensures)
-    (at-special (a .o) (a .start) (a .first) (a .plain) (now (a .bytes)) (now (a .out)) (l .sender) (l .asks) (l .taken) (l .out) (l .count) (l .inv) (e .before .loop-test .taken) (e .if1 .left) (rw (f .before .stops .ensures) at (f .if2 .taken)))
-
-slice-aggregate-convert-as : tie.Need-slice-aggregate-convert-as Inv-loop μ-loop
-slice-aggregate-convert-as c = search needs
-
-convert-as-requires : tie.Need-convert-as-requires Inv-loop μ-loop
-convert-as-requires c κs = c .before .before .before .before .before .before .before .table .ensures
+    (no-room (a .o) (a .start) (a .first) (a .plain) (now (a .bytes)) (now (a .out)) (l .sender) (l .asks) (l .taken) (l .out) (l .count) (l .inv) (t .loop-test .taken) (rw (f .before .stops .ensures) at (f .if1 .left)) (rw (h .has-room .ensures, v .convert-as .ensures) at (not-true (h .has-room .result) (g .if2 .taken))))
 
 sub-put-asked : tie.Need-sub-put-asked Inv-loop μ-loop
 sub-put-asked c = search needs
@@ -82,9 +90,10 @@ part-put-asked-end c = search needs
 
 put-asked-requires : tie.Need-put-asked-requires Inv-loop μ-loop
 put-asked-requires c κs =
-    let e = c .before .before .before .before .before .before in
-    let l = e .before .before .loop in
-    rw (free-length (l .out) (l .count)) (e .if1 .left)
+    let g = c .before in
+    let h = g .before in
+    let l = h .before .before .before .before .before .before .before .loop in
+    rw (free-length (l .out) (l .count)) (leb-true _ _ (rw (h .has-room .ensures) at (not-false (h .has-room .result) (g .if2 .left))))
 
 next-asks-requires : tie.Need-next-asks-requires Inv-loop μ-loop
 next-asks-requires c κs = search needs
@@ -92,28 +101,31 @@ next-asks-requires c κs = search needs
 add-count : tie.Need-add-count Inv-loop μ-loop
 add-count c =
     let p = c .before .before .before .before .before in
-    let m = p .before .before .before .before .before .before .before .before .before in
+    let m = p .before .before .before .before .before .before .before .before .before .before in
     let l = m .loop in
     omega (arith, p .put-asked .ensures .places .room, free-length (l .out) (l .count), l .inv .places .same-length, l .inv .places .room, m .before .before .before .before .good)
 
 add-taken : tie.Need-add-taken Inv-loop μ-loop
 add-taken c =
-    let e = c .before .before .before .before .before .before .before .before .before .before .before .before in
-    omega (arith, e .before .loop-test .taken, e .before .before .before .before .before .before .good)
+    let t = c .before .before .before .before .before .before .before .before .before .before .before .before .before .before in
+    omega (arith, t .loop-test .taken, t .before .before .before .before .before .good)
 
 loop-less : tie.Need-loop-less Inv-loop μ-loop
-loop-less c = omega (arith, c .before .before .before .before .before .before .before .before .before .before .before .before .before .loop-test .taken)
+loop-less c = omega (arith, c .before .before .before .before .before .before .before .before .before .before .before .before .before .before .loop-test .taken)
 
 loop-again : tie.Need-loop-again Inv-loop μ-loop
 loop-again c =
     let p = c .before .before .before .before .before in
-    let f = p .before .before .before .before in
-    let e = f .before .before .before in
-    let m = e .before .before in
+    let g = p .before .before in
+    let h = g .before in
+    let v = h .before in
+    let f = v .before .before in
+    let t = f .before .before .before in
+    let m = t .before in
     let l = m .loop in
     let a = m .before .before .before .before .args in
     rw (c .before .before .next-asks .ensures)
-    (sends-on (a .o) (a .start) (a .first) (a .plain) (now (a .bytes)) (now (a .out)) (l .sender) (l .asks) (l .taken) (l .out) (l .count) (l .inv) (e .before .loop-test .taken) (e .if1 .left) (rw (f .before .stops .ensures) at (f .if2 .left)) _ (p .put-asked .result) (rw (p .before .before .convert-as .ensures) at (p .put-asked .ensures)))
+    (sends-on (a .o) (a .start) (a .first) (a .plain) (now (a .bytes)) (now (a .out)) (l .sender) (l .asks) (l .taken) (l .out) (l .count) (l .inv) (t .loop-test .taken) (rw (f .before .stops .ensures) at (f .if1 .left)) (rw (h .has-room .ensures, v .convert-as .ensures) at (not-false (h .has-room .result) (g .if2 .left))) _ (p .put-asked .result) (rw (v .convert-as .ensures) at (p .put-asked .ensures)))
 
 sent-requires-3 : tie.Need-sent-requires-3 Inv-loop μ-loop
 sent-requires-3 c κs = search needs
@@ -136,17 +148,18 @@ send-spec =
     μ-loop
     table-requires
     loop-holds
-    sub-if1
+    shared-slice-read-b
+    stops-requires
     sent-requires
     same-length
     returns
-    shared-slice-read-b
-    stops-requires
+    slice-aggregate-convert-as
+    convert-as-requires
+    sub-has-room
+    has-room-requires
     sent-requires-2
     same-length-2
     returns-2
-    slice-aggregate-convert-as
-    convert-as-requires
     sub-put-asked
     part-put-asked-start
     part-put-asked-end

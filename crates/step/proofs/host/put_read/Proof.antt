@@ -25,9 +25,7 @@ enum-known-out : tie.Need-enum-known-out
 enum-known-out c = search needs
 
 put-text-requires : tie.Need-put-text-requires
-put-text-requires c κs =
-    let d = c .before .before .before .before in
-    rw (d .with-reader .ensures) (d .before .before .before .before .before .before .pre)
+put-text-requires c κs = search needs
 
 in-first-requires-2 : tie.Need-in-first-requires-2
 in-first-requires-2 c κs = search needs
@@ -36,9 +34,7 @@ enum-known-out-2 : tie.Need-enum-known-out-2
 enum-known-out-2 c = search needs
 
 put-text-requires-2 : tie.Need-put-text-requires-2
-put-text-requires-2 c κs =
-    let d = c .before .before .before .before in
-    rw (d .with-reader .ensures) (d .before .before .before .before .before .before .pre)
+put-text-requires-2 c κs = search needs
 
 in-first-requires-3 : tie.Need-in-first-requires-3
 in-first-requires-3 c κs = search needs

@@ -1,46 +1,52 @@
--- `step::sends::put_items` meets its contract: the buffer apart has room for whatever two bytes may be.
+-- `step::sends::put_items` meets its contract: all of the codes are counted, and sent where so many places are free.
 -- Assumes nothing.
 use denote.Ref.{now}
-use native.Mathlib.Omega.{arith}
-use Rattle.step.proofs.Sent.{text-puts}
+use Rattle.step.specs.Step.{asked, released}
+use Rattle.step.proofs.Sent.{text-sent, held-back, put}
 use borrow.Author.Needs.{needs}
 use Rattle.step.proofs.sends.put_items.Statement.{statement}
 use Rattle.step.proofs.sends.put_items.Tie as tie
 
-slice-aggregate-send-text : tie.Need-slice-aggregate-send-text
-slice-aggregate-send-text c = search needs
-
-send-text-requires : tie.Need-send-text-requires
-send-text-requires c κs = search needs
+count-text-requires : tie.Need-count-text-requires
+count-text-requires c κs = search needs
 
 with-sender-requires : tie.Need-with-sender-requires
 with-sender-requires c κs = search needs
 
-slice-aggregate-put-codes : tie.Need-slice-aggregate-put-codes
-slice-aggregate-put-codes c = search needs
+no-room-requires : tie.Need-no-room-requires
+no-room-requires c κs = search needs
 
-put-codes-requires : tie.Need-put-codes-requires
-put-codes-requires c κs = search needs
+returns : tie.Need-returns
+returns c =
+    let i = c .before in
+    let w = i .before .before in
+    let x = w .before .before in
+    let a = x .before .before .before .before .args in
+    rw (c .no-room .ensures) (held-back (a .s) (asked (released (a .slash) (a .b))) (x .count-text .result) (x .count-text .ensures) _ (w .with-sender .ensures) (now (a .out)) (i .if1 .taken))
+
+send-text-requires : tie.Need-send-text-requires
+send-text-requires c κs = search needs
 
 same-length : tie.Need-same-length
 same-length c = search needs
 
-returns : tie.Need-returns
-returns c =
-    let w = c .before .before .before .before .before in
-    let t = w .before .before .before in
-    let b = t .before .before .before .before .before in
-    let a = b .args in
-    text-puts (a .s) _ _ (now (a .out)) _ (t .send-text .result) _ _ (b .pre) (omega arith) (a .slash) (a .b) (t .send-text .ensures) (w .with-sender .ensures) (c .before .before .put-codes .ensures)
+returns-2 : tie.Need-returns-2
+returns-2 c =
+    let y = c .before .before in
+    let i = y .before .before in
+    let w = i .before .before in
+    let x = w .before .before in
+    let a = x .before .before .before .before .args in
+    put (a .s) (asked (released (a .slash) (a .b))) (x .count-text .result) (x .count-text .ensures) _ (w .with-sender .ensures) (now (a .out)) _ _ (y .send-text .result) (i .if1 .left) (text-sent (a .s .settings) (a .s .sender) (released (a .slash) (a .b)) _) (y .send-text .ensures)
 
 pub put-items-spec : {M : Type 1} → statement M
 put-items-spec =
     tie.close
     (tie.spec
-    slice-aggregate-send-text
-    send-text-requires
+    count-text-requires
     with-sender-requires
-    slice-aggregate-put-codes
-    put-codes-requires
+    no-room-requires
+    returns
+    send-text-requires
     same-length
-    returns)
+    returns-2)
