@@ -43,9 +43,6 @@ module _ (o : Settings) (r : Record) (w : Wanted) (k : Kind) (q : k ≡ kindOf (
     character-held =
         rw (← character-codes, notes-append o r b c, ← e, q) (sym (record-after o held (w .case) (w .code)))
 
-    pub character-noted : (n m : ℕ) → n ≡ length b → m ≡ length c → record { held = after o held (w .case) k; count = n + m } ≡ noted o r (character o r w)
-    character-noted n m f g = rw (character-held, ← character-codes, length-append b c, f, g)
-
     -- it has room where the whole character has
     pub character-room : (old mid : List ℕ) (n : ℕ) → Filled old mid b n → length (character o r w) ≤ length old → length c ≤ length mid - n
     character-room old mid n f fits = omega (arith, fits, ap length character-codes, length-append b c, f .count, f .same-length)
@@ -53,6 +50,13 @@ module _ (o : Settings) (r : Record) (w : Wanted) (k : Kind) (q : k ≡ kindOf (
     pub character-put : (old mid ys : List ℕ) (n m : ℕ) → Filled old mid b n → Filled (midOf n (length mid - n) mid) ys c m
         → Notes o r (character o r w) old (putMid n (length mid - n) mid ys) (record { held = after o held (w .case) k; count = n + m })
     character-put old mid ys n m f g = record { held = character-held; places = rw (← character-codes) (filled-on old mid b c ys n m f g) }
+
+  pub character-noted : (x : Noted) (m : ℕ) → x ≡ noted o r b → m ≡ length (sendKind o (x .held .case) (w .case) k (w .code))
+      → record { held = after o (x .held) (w .case) k; count = x .count + m } ≡ noted o r (character o r w)
+  character-noted x m f g =
+      let e = ap (λ (u : Noted). u .held) f in
+      let n = ap (λ (u : Noted). u .count) f in
+      rw (character-held (x .held) e, ← character-codes (x .held) e, length-append b (sendKind o (x .held .case) (w .case) k (w .code)), n, g)
 
   -- the ending has room where the whole character has
   pub ending-room : (n : ℕ) → length (character o r w) ≤ n → length b ≤ n

@@ -72,8 +72,8 @@ fn count_character(o: Settings, held: Record, w: Wanted, k: Kind) -> Noted
     let case = w.case;
     let ended = count_end(o, held, code::moves(case, k));
     let then = ended.held;
-    let known = then.case;
-    let m = count_code(o, known, case, k);
+    let n = then.case;
+    let m = count_code(o, n, case, k);
     Noted {
         held: after(o, then, case, k),
         count: ended.count + m,

@@ -18,7 +18,11 @@ pub fn put_one(s: State, b: u8, out: &mut [u8]) -> Took
             count: 1,
         }
     } else {
-        no_room(s)
+        Took {
+            fits: false,
+            state: s,
+            count: 0,
+        }
     }
 }
 

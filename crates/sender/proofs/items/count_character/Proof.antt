@@ -1,8 +1,6 @@
 -- `sender::items::count_character` meets its contract: the code is counted after the ending, and the record notes both.
 -- Assumes nothing.
-use mathlib.Core.Path.{ap}
 use native.Mathlib.Omega.{arith}
-use Rattle.sender.specs.Names.{Record, Noted}
 use Rattle.sender.proofs.OneItem.{character-noted}
 use borrow.Author.Needs.{needs}
 use Rattle.sender.proofs.items.count_character.Statement.{statement}
@@ -33,11 +31,9 @@ returns c =
     let m = e .before in
     let b = m .before in
     let a = b .args in
-    let f = rw (m .moves .ensures) at (e .count-end .ensures .1) in
-    let x = e .count-end .result in (
+    let f = rw (m .moves .ensures) at (e .count-end .ensures .1) in (
       omega (arith, p .count-code .ensures .0, e .count-end .ensures .0),
-      rw (c .before .after .ensures)
-          (character-noted (a .o) (a .held) (a .w) (a .k) (b .pre) (x .held) (ap (λ (u : Noted). u .held) f) (x .count) _ (ap (λ (u : Noted). u .count) f) (p .count-code .ensures .1 (a .w .code))),
+      rw (c .before .after .ensures) (character-noted (a .o) (a .held) (a .w) (a .k) (b .pre) (e .count-end .result) _ f (p .count-code .ensures .1 (a .w .code))),
     )
 
 pub count-character-spec : {M : Type 1} → statement M
