@@ -35,16 +35,21 @@ fn is_due(o: Settings, col: Column) -> bool
     }
 }
 
+// Whether an ending goes before a code that moves the carriage or not.
+fn is_ended(o: Settings, col: Column, moves: bool) -> bool
+    ensures { λ r. ⌜ r ≡ (moves && due o col) ⌝ }
+{
+    if moves { is_due(o, col) } else { false }
+}
+
 // The ending, where it goes before this code, counted.
 fn count_end(o: Settings, held: Record, moves: bool) -> Noted
     ensures { λ r. ⌜ (r .count ≤ 16) × (r ≡ noted o held (ending o held (moves && due o (held .column)))) ⌝ }
 {
     let col = held.column;
     let string = o.string;
-    if moves {
-        if is_due(o, col) {
-            return count_ending(o, held, string);
-        }
+    if is_ended(o, col, moves) {
+        return count_ending(o, held, string);
     }
     Noted { held, count: 0 }
 }
@@ -56,10 +61,8 @@ fn end_line(o: Settings, held: Record, moves: bool, out: &mut [u8]) -> Noted
 {
     let col = held.column;
     let string = o.string;
-    if moves {
-        if is_due(o, col) {
-            return put_ending(o, held, string, out);
-        }
+    if is_ended(o, col, moves) {
+        return put_ending(o, held, string, out);
     }
     Noted { held, count: 0 }
 }
