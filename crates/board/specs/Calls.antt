@@ -7,7 +7,7 @@ use lib.ListN.{length}
 use Rattle.laws.specs.Written.{fronted}
 use Rattle.step.specs.State.{sound}
 use Rattle.linebox.specs.Call.{Done, call, stopped}
-use Rattle.board.specs.Names.{Stream}
+use Rattle.board.specs.Names.{Stream, Tu}
 use Rattle.spelling.specs.Spelling.{spells, spelt, stateOf}
 
 -- the bytes are the spelling of a sound state
@@ -37,3 +37,11 @@ pub record BoardsOne (b : List ℕ) (d : Done) (old state now done : List ℕ) (
   pub bytes : state ≡ after b d
   pub told : done ≡ d .taken ∷ length (d .first) ∷ []
   pub one : now ≡ fronted old (d .first)
+
+-- The promises of the calls: a host or a line call, and a TU call, on the state's bytes b.
+
+abbrev pub Boarded : Stream → List ℕ → List ℕ → List ℕ → List ℕ → List ℕ → List ℕ → List ℕ → List ℕ → ℕ → Type 0
+Boarded t b xs old₁ old₂ state now₁ now₂ done r = Boards b (asked t b xs (length old₁) (length old₂)) old₁ old₂ state now₁ now₂ done r
+
+abbrev pub BoardedTu : List ℕ → List ℕ → List ℕ → List ℕ → List ℕ → List ℕ → ℕ → Type 0
+BoardedTu b xs old state now done r = BoardsOne b (asked Tu b xs (length old) 0) old state now done r

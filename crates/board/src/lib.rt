@@ -1,11 +1,10 @@
 // The box for the boards' C: the state as 128 bytes that the caller keeps, and one function for each call.
 ghost use mathlib.Core.Path.{_≡_};
 ghost use mathlib.Core.List.{[], _∷_};
-ghost use lib.ListN.{length};
 ghost use Rattle.step.specs.State.{freshBox};
-ghost use Rattle.board.specs.Names.{Host as Names·Host, Line as Names·Line, Tu as Names·Tu};
+ghost use Rattle.board.specs.Names.{Host as Names·Host, Line as Names·Line};
 ghost use Rattle.spelling.specs.Spelling.{spelt};
-ghost use Rattle.board.specs.Calls.{asked, Boards, BoardsOne};
+ghost use Rattle.board.specs.Calls.{Boarded, BoardedTu};
 ghost use Rattle.board.specs.Finds.{Finds};
 use linebox::Called;
 use linebox::number_of;
@@ -38,7 +37,7 @@ pub extern "C" fn linebox_host(
     done: &mut [u64; 3],
 ) -> u32
     ensures { λ r. ⌜
-        Boards (now (state .entry)) (asked Names·Host (now (state .entry)) (now (input .entry)) (length (now (line .entry))) (length (now (host .entry)))) (now (line .entry)) (now (host .entry)) (now (state .exit)) (now (line .exit)) (now (host .exit)) (now (done .exit)) r
+        Boarded Names·Host (now (state .entry)) (now (input .entry)) (now (line .entry)) (now (host .entry)) (now (state .exit)) (now (line .exit)) (now (host .exit)) (now (done .exit)) r
         ⌝ }
 {
     let x = load(*state);
@@ -65,7 +64,7 @@ pub extern "C" fn linebox_line(
     done: &mut [u64; 3],
 ) -> u32
     ensures { λ r. ⌜
-        Boards (now (state .entry)) (asked Names·Line (now (state .entry)) (now (codes .entry)) (length (now (host .entry))) (length (now (tu .entry)))) (now (host .entry)) (now (tu .entry)) (now (state .exit)) (now (host .exit)) (now (tu .exit)) (now (done .exit)) r
+        Boarded Names·Line (now (state .entry)) (now (codes .entry)) (now (host .entry)) (now (tu .entry)) (now (state .exit)) (now (host .exit)) (now (tu .exit)) (now (done .exit)) r
         ⌝ }
 {
     let x = load(*state);
@@ -91,7 +90,7 @@ pub extern "C" fn linebox_tu(
     done: &mut [u64; 2],
 ) -> u32
     ensures { λ r. ⌜
-        BoardsOne (now (state .entry)) (asked Names·Tu (now (state .entry)) (now (codes .entry)) (length (now (line .entry))) 0) (now (line .entry)) (now (state .exit)) (now (line .exit)) (now (done .exit)) r
+        BoardedTu (now (state .entry)) (now (codes .entry)) (now (line .entry)) (now (state .exit)) (now (line .exit)) (now (done .exit)) r
         ⌝ }
 {
     let x = load(*state);

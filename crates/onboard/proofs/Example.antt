@@ -12,7 +12,7 @@ use Rattle.step.specs.State.{freshBox}
 use Rattle.spelling.specs.Spelling.{spells, spelt, stateOf}
 use Rattle.demands.specs.Lent.{sentAll}
 use Rattle.onboard.specs.OneCall.{Promised}
-use Rattle.onboard.specs.Session.{exchanges, Session, Demanded}
+use Rattle.onboard.specs.Session.{asExchanges, Session, Demanded}
 use Rattle.onboard.specs.Example.{opened, short, again, dropped, calls}
 use Rattle.onboard.proofs.Session.{session-demanded}
 
@@ -40,5 +40,5 @@ pub example-demanded : Demanded calls
 example-demanded = session-demanded calls example-session
 
 -- 31 16 16 21 27 23
-pub example-sent : sentAll (exchanges calls) ≡ 31 ∷ 16 ∷ 16 ∷ 21 ∷ 27 ∷ 23 ∷ []
+pub example-sent : sentAll (asExchanges calls) ≡ 31 ∷ 16 ∷ 16 ∷ 21 ∷ 27 ∷ 23 ∷ []
 example-sent = refl

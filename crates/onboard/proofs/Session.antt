@@ -15,19 +15,19 @@ use Rattle.demands.specs.Lent.{left}
 use Rattle.demands.proofs.Lent.{Meets, meets-reads-back, meets-prints}
 use Rattle.onboard.specs.Names.{State}
 use Rattle.onboard.specs.OneCall.{Wire, Promised}
-use Rattle.onboard.specs.Session.{exchanges, Session, lastBytes, Demanded}
+use Rattle.onboard.specs.Session.{asExchanges, Session, lastBytes, Demanded}
 use Rattle.onboard.proofs.OneCall.{spelt-back, one-call}
 
 -- from bytes that spell a sound state on
-session-meets : (b : List ℕ) (cs : List Wire) → spellsSound b ≡ true → Session b cs → Meets (stateOf b) (exchanges cs)
+session-meets : (b : List ℕ) (cs : List Wire) → spellsSound b ≡ true → Session b cs → Meets (stateOf b) (asExchanges cs)
 session-meets b [] h k = tt
 session-meets b (c ∷ cs) h k =
     let e = k .0 .0 in
     let one = one-call c (k .0 .1) in
     let from : spellsSound (c .state) ≡ true = rw e h in
-    (subst (λ (s : List ℕ). Meets (stateOf s) (exchanges (c ∷ []))) e (one .ended from, tt) .0, session-meets (c .after) cs (one .spelt from) (k .1))
+    (subst (λ (s : List ℕ). Meets (stateOf s) (asExchanges (c ∷ []))) e (one .ended from, tt) .0, session-meets (c .after) cs (one .spelt from) (k .1))
 
-session-left : (b : List ℕ) (cs : List Wire) → spellsSound b ≡ true → Session b cs → lastBytes b cs ≡ spelt (left (stateOf b) (exchanges cs))
+session-left : (b : List ℕ) (cs : List Wire) → spellsSound b ≡ true → Session b cs → lastBytes b cs ≡ spelt (left (stateOf b) (asExchanges cs))
 session-left b [] h k = its-spelling b (both (spells b) (sound (stateOf b)) h .0)
 session-left b (c ∷ cs) h k =
     let from : spellsSound (c .state) ≡ true = rw (k .0 .0) h in
@@ -38,9 +38,9 @@ pub session-demanded : (cs : List Wire) → Session (spelt freshBox) cs → Dema
 session-demanded cs k =
     let e = spelt-back freshBox fresh-sound in
     let h : spellsSound (spelt freshBox) ≡ true = rw (e .0, e .1) fresh-sound in
-    let met : Meets freshBox (exchanges cs) = subst (λ (s : State). Meets s (exchanges cs)) (e .1) (session-meets (spelt freshBox) cs h k) in
+    let met : Meets freshBox (asExchanges cs) = subst (λ (s : State). Meets s (asExchanges cs)) (e .1) (session-meets (spelt freshBox) cs h k) in
     record {
-      reads-back = meets-reads-back freshBox (exchanges cs) met;
-      prints = meets-prints (exchanges cs) met;
-      state = session-left (spelt freshBox) cs h k ∙ ap (λ (s : State). spelt (left s (exchanges cs))) (e .1);
+      reads-back = meets-reads-back freshBox (asExchanges cs) met;
+      prints = meets-prints (asExchanges cs) met;
+      state = session-left (spelt freshBox) cs h k ∙ ap (λ (s : State). spelt (left s (asExchanges cs))) (e .1);
     }

@@ -3,10 +3,10 @@ use Prim.Native.Nat.{ℕ}
 use mathlib.Core.Path.{_≡_}
 use mathlib.Core.Bool.{true, false}
 use mathlib.Core.List.{List, []}
-use lib.ListN.{length, getD}
+use lib.ListN.{getD}
 use Rattle.linebox.specs.Call.{stopped}
 use Rattle.spelling.specs.Spelling.{stateOf}
-use Rattle.board.specs.Calls.{spellsSound, asked, Boards, BoardsOne}
+use Rattle.board.specs.Calls.{spellsSound, Boarded, BoardedTu}
 use Rattle.demands.specs.Box.{Result, resulting}
 use Rattle.demands.specs.EveryCall.{Ended}
 use Rattle.onboard.specs.Names.{Stream, Host, Line, Tu}
@@ -27,10 +27,9 @@ pub record Wire : Type 0 where
 
 -- the promise of `linebox_host`, `linebox_line` or `linebox_tu`
 abbrev pub PromisedBy : Stream → Wire → Type 0
-PromisedBy Host c = Boards (c .state) (asked Host (c .state) (c .bytes) (length (c .one)) (length (c .two))) (c .one) (c .two) (c .after) (c .first) (c .second) (c .done) (c .answer)
-PromisedBy Line c = Boards (c .state) (asked Line (c .state) (c .bytes) (length (c .one)) (length (c .two))) (c .one) (c .two) (c .after) (c .first) (c .second) (c .done) (c .answer)
-PromisedBy Tu c =
-    BoardsOne (c .state) (asked Tu (c .state) (c .bytes) (length (c .one)) 0) (c .one) (c .after) (c .first) (c .done) (c .answer) × ((c .two ≡ []) × (c .second ≡ []))
+PromisedBy Host c = Boarded Host (c .state) (c .bytes) (c .one) (c .two) (c .after) (c .first) (c .second) (c .done) (c .answer)
+PromisedBy Line c = Boarded Line (c .state) (c .bytes) (c .one) (c .two) (c .after) (c .first) (c .second) (c .done) (c .answer)
+PromisedBy Tu c = BoardedTu (c .state) (c .bytes) (c .one) (c .after) (c .first) (c .done) (c .answer) × ((c .two ≡ []) × (c .second ≡ []))
 
 abbrev pub Promised : Wire → Type 0
 Promised c = PromisedBy (c .stream) c

@@ -10,12 +10,12 @@ use Rattle.demands.specs.Printing.{Prints}
 use Rattle.onboard.specs.OneCall.{Wire, Promised, seen}
 
 -- what a call for C was given and gave, with the states that its bytes spell
-abbrev pub exchange : Wire → Exchange
-exchange c = record { lent = record { stream = c .stream; bytes = c .bytes; one = c .one; two = c .two }; gave = seen c }
+abbrev pub asExchange : Wire → Exchange
+asExchange c = record { lent = record { stream = c .stream; bytes = c .bytes; one = c .one; two = c .two }; gave = seen c }
 
-abbrev pub exchanges : List Wire → List Exchange
-exchanges [] = []
-exchanges (c ∷ cs) = exchange c ∷ exchanges cs
+abbrev pub asExchanges : List Wire → List Exchange
+asExchanges [] = []
+asExchanges (c ∷ cs) = asExchange c ∷ asExchanges cs
 
 -- any calls, each handed the state's bytes that the last one left, and each as its promise says
 abbrev pub Session : List ℕ → List Wire → Type 0
@@ -30,8 +30,8 @@ lastBytes b (c ∷ cs) = lastBytes (c .after) cs
 -- What is demanded of calls that began with the bytes of `linebox_fresh`.
 pub record Demanded (cs : List Wire) : Type 0 where
   -- the codes that they wrote to the line read back
-  pub reads-back : ReadsBack freshBox (tookAll (exchanges cs)) (sentAll (exchanges cs))
+  pub reads-back : ReadsBack freshBox (tookAll (asExchanges cs)) (sentAll (asExchanges cs))
   -- and print
-  pub prints : Prints (tookAll (exchanges cs)) (sentAll (exchanges cs)) (left freshBox (exchanges cs))
+  pub prints : Prints (tookAll (asExchanges cs)) (sentAll (asExchanges cs)) (left freshBox (asExchanges cs))
   -- and the bytes that the last one left are the spelling of the state that it left
-  pub state : lastBytes (spelt freshBox) cs ≡ spelt (left freshBox (exchanges cs))
+  pub state : lastBytes (spelt freshBox) cs ≡ spelt (left freshBox (asExchanges cs))
