@@ -9,7 +9,6 @@ use native.Mathlib.Omega.{arith}
 use native.Mathlib.Numerals.{add-one}
 use native.Mathlib.Nat.{zero-add, add-zero, sub-zero}
 use borrow.Rule.Slice.PartMut.{putMid, midOf}
-use borrow.Author.Tests.{le-leb, lt-leb, leb-true}
 use lib.ListN.{length, getD, drop, drop-of-length-le}
 use lib.Seq.{drop-cons}
 use Rattle.laws.specs.Written.{Filled}
@@ -40,6 +39,11 @@ moved n p cs d =
     let u : n + suc (d .taken) ≡ n + 1 + d .taken = omega arith in
     rw (u, append-assoc p cs (d .codes))
 
+-- the same whatever the test
+same : {A : Type 0} (b : Bool) (x : A) → cond b x x ≡ x
+same true x = refl
+same false x = refl
+
 -- where the loop is: n bytes are sent as p, and the rest is still to come
 pub record Sending (o : Settings) (start : Sender) (first : Asks) (plain : Bool) (bytes old : List ℕ) (s : Sender) (asks : Asks) (n : ℕ) (now : List ℕ) (k : ℕ) : Type 0 where
   pub p : List ℕ
@@ -64,29 +68,29 @@ module _ (o : Settings) (start : Sender) (first : Asks) (plain : Bool) (bytes ol
       abbrev cs : List ℕ
       cs = items o s (wantedOf (converted asks (getD bytes n 0)))
 
+      pub no-room : leb (length cs) (length now - k) ≡ false → Sends (sends o start first plain bytes (length old)) old now (record { sender = s; asks = asks; taken = n; count = k })
+      no-room h = stops (rw (drop-cons bytes n 0 lt, ← e .places .same-length, h) (same (plain && isSpecial asks (getD bytes n 0)) (stopped s asks)))
+
       pub at-special : (plain && isSpecial asks (getD bytes n 0)) ≡ true → Sends (sends o start first plain bytes (length old)) old now (record { sender = s; asks = asks; taken = n; count = k })
       at-special z = stops (rw (drop-cons bytes n 0 lt, z))
 
-      module _ (z : (plain && isSpecial asks (getD bytes n 0)) ≡ false) where
-        pub no-room : leb (length cs) (length now - k) ≡ false → Sends (sends o start first plain bytes (length old)) old now (record { sender = s; asks = asks; taken = n; count = k })
-        no-room h = stops (rw (drop-cons bytes n 0 lt, z, ← e .places .same-length, h))
-
-        -- one byte more
-        pub sends-on : leb (length cs) (length now - k) ≡ true → (ys : List ℕ) (x : Item) → Puts o s (wantedOf (converted asks (getD bytes n 0))) (midOf k (length now - k) now) ys x
-            → Sending o start first plain bytes old (x .sender) (asksNext o asks (getD bytes n 0)) (n + 1) (putMid k (length now - k) now ys) (k + x .count)
-        sends-on h ys x f =
-            let b = getD bytes n 0 in
-            let ws = wantedOf (converted asks b) in
-            let a = length old - k in
-            let u : leb (length cs) a ≡ true = rw (e .places .same-length) at h in
-            let v : a - length cs ≡ length old - (k + x .count) = omega (arith, f .places .count) in
-            let turn : sends o s asks plain (drop n bytes) a ≡ onward cs (sends o (afterItems o s ws) (asksNext o asks b) plain (drop (n + 1) bytes) (a - length cs)) = rw (drop-cons bytes n 0 lt, z, u, add-one) in
-            record {
-              p = e .p ++ cs;
-              within = omega arith;
-              places = filled-on old now (e .p) cs ys k (x .count) (e .places) (f .places);
-              rest = e .rest ∙ ap (before n (e .p)) turn ∙ moved n (e .p) cs _ ∙ rw (f .sender, v);
-            }
+      -- one byte more
+      pub sends-on : leb (length cs) (length now - k) ≡ true → (plain && isSpecial asks (getD bytes n 0)) ≡ false → (ys : List ℕ) (x : Item)
+          → Puts o s (wantedOf (converted asks (getD bytes n 0))) (midOf k (length now - k) now) ys x
+          → Sending o start first plain bytes old (x .sender) (asksNext o asks (getD bytes n 0)) (n + 1) (putMid k (length now - k) now ys) (k + x .count)
+      sends-on h z ys x f =
+          let b = getD bytes n 0 in
+          let ws = wantedOf (converted asks b) in
+          let a = length old - k in
+          let u : leb (length cs) a ≡ true = rw (e .places .same-length) at h in
+          let v : a - length cs ≡ length old - (k + x .count) = omega (arith, f .places .count) in
+          let turn : sends o s asks plain (drop n bytes) a ≡ onward cs (sends o (afterItems o s ws) (asksNext o asks b) plain (drop (n + 1) bytes) (a - length cs)) = rw (drop-cons bytes n 0 lt, z, u, add-one) in
+          record {
+            p = e .p ++ cs;
+            within = omega arith;
+            places = filled-on old now (e .p) cs ys k (x .count) (e .places) (f .places);
+            rest = e .rest ∙ ap (before n (e .p)) turn ∙ moved n (e .p) cs _ ∙ rw (f .sender, v);
+          }
 
 -- no more bytes than there are
 pub run-within : (o : Settings) (s : Sender) (asks : Asks) (plain : Bool) (bs : List ℕ) (room : ℕ) → sends o s asks plain bs room .taken ≤ length bs

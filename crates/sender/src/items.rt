@@ -39,7 +39,7 @@ fn is_due(o: Settings, col: Column) -> bool
 fn is_ended(o: Settings, col: Column, moves: bool) -> bool
     ensures { λ r. ⌜ r ≡ (moves && due o col) ⌝ }
 {
-    if moves { is_due(o, col) } else { false }
+    moves & is_due(o, col)
 }
 
 // The ending, where it goes before this code, counted.

@@ -127,13 +127,13 @@ pub fn count(o: Settings, s: Sender, asks: Asks, b: u8) -> Item
 }
 
 // Whether a byte's codes have room: no byte is more than eighteen, and with fewer places free they are counted.
-fn has_room(o: Settings, s: Sender, x: Conversion, room: usize) -> bool
-    ensures { λ r. ⌜ r ≡ leb (length (items o s (wantedOf x))) room ⌝ }
+fn has_room(o: Settings, s: Sender, asks: Asks, b: u8, room: usize) -> bool
+    ensures { λ r. ⌜ r ≡ leb (length (items o s (wantedOf (converted asks b)))) room ⌝ }
 {
     if 18 <= room {
         return true;
     }
-    let y = count_asked(o, s, x);
+    let y = count(o, s, asks, b);
     y.count <= room
 }
 
@@ -183,13 +183,13 @@ pub fn send(
     let mut count = 0;
     while taken < bytes.len() {
         let b = bytes[taken];
+        if !has_room(o, sender, asks, b, out.len() - count) {
+            return sent(sender, asks, taken, count);
+        }
         if stops(plain, asks, b) {
             return sent(sender, asks, taken, count);
         }
         let x = convert_as(asks, &table, b);
-        if !has_room(o, sender, x, out.len() - count) {
-            return sent(sender, asks, taken, count);
-        }
         let y = put_asked(o, sender, x, &mut out[count..]);
         asks = next_asks(o, asks, b);
         sender = y.sender;

@@ -8,10 +8,7 @@ is-due-requires : tie.Need-is-due-requires
 is-due-requires c κs = search needs
 
 returns : tie.Need-returns
-returns c = rw (c .before .if1 .taken) (c .is-due .ensures)
-
-returns-2 : tie.Need-returns-2
-returns-2 c = search needs
+returns c = rw (c .is-due .ensures)
 
 pub is-ended-spec : {M : Type 1} → statement M
-is-ended-spec = tie.close (tie.spec is-due-requires returns returns-2)
+is-ended-spec = tie.close (tie.spec is-due-requires returns)

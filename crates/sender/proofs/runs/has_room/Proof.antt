@@ -6,6 +6,7 @@ use native.Mathlib.Omega.{arith}
 use lib.ListN.{length, length-map}
 use borrow.Author.Tests.{le-leb}
 use Rattle.sender.specs.Item.{items, wantedOf}
+use Rattle.sender.specs.Sends.{converted}
 use Rattle.sender.proofs.Few.{byte-most}
 use borrow.Author.Needs.{needs}
 use Rattle.sender.proofs.runs.has_room.Statement.{statement}
@@ -16,14 +17,14 @@ returns c =
     let b = c .before in
     let a = b .args in
     let n : length (a .o .string) ≡ 8 = sym (length-map (a .o .string) (λ v. v)) ∙ b .good .0 .1 .1 .1 .1 .1 .1 .1 .1 .0 .1 .0 .1 in
-    let h : length (items (a .o) (a .s) (wantedOf (a .x))) ≤ a .room = omega (arith, byte-most (a .o) n (a .s) (a .x), c .if1 .taken) in
+    let h : length (items (a .o) (a .s) (wantedOf (converted (a .asks) (a .b)))) ≤ a .room = omega (arith, byte-most (a .o) n (a .s) (converted (a .asks) (a .b)), c .if1 .taken) in
     sym (le-leb _ _ h)
 
-count-asked-requires : tie.Need-count-asked-requires
-count-asked-requires c κs = search needs
+count-requires : tie.Need-count-requires
+count-requires c κs = search needs
 
 returns-2 : tie.Need-returns-2
-returns-2 c = rw (c .before .count-asked .ensures .1)
+returns-2 c = rw (c .before .count .ensures .1)
 
 pub has-room-spec : {M : Type 1} → statement M
-has-room-spec = tie.close (tie.spec returns count-asked-requires returns-2)
+has-room-spec = tie.close (tie.spec returns count-requires returns-2)

@@ -29,8 +29,11 @@ loop-holds c =
 shared-slice-read-b : tie.Need-shared-slice-read-b Inv-loop μ-loop
 shared-slice-read-b c = search needs
 
-stops-requires : tie.Need-stops-requires Inv-loop μ-loop
-stops-requires c κs = search needs
+sub-has-room : tie.Need-sub-has-room Inv-loop μ-loop
+sub-has-room c = search needs
+
+has-room-requires : tie.Need-has-room-requires Inv-loop μ-loop
+has-room-requires c κs = search needs
 
 sent-requires : tie.Need-sent-requires Inv-loop μ-loop
 sent-requires c κs = search needs
@@ -40,25 +43,17 @@ same-length c = search needs
 
 returns : tie.Need-returns Inv-loop μ-loop
 returns c =
-    let f = c .before in
-    let t = f .before .before .before in
+    let g = c .before in
+    let h = g .before in
+    let t = h .before .before in
     let m = t .before in
     let l = m .loop in
     let a = m .before .before .before .before .args in
     rw (c .sent .ensures)
-    (at-special (a .o) (a .start) (a .first) (a .plain) (now (a .bytes)) (now (a .out)) (l .sender) (l .asks) (l .taken) (l .out) (l .count) (l .inv) (t .loop-test .taken) (rw (f .before .stops .ensures) at (f .if1 .taken)))
+    (no-room (a .o) (a .start) (a .first) (a .plain) (now (a .bytes)) (now (a .out)) (l .sender) (l .asks) (l .taken) (l .out) (l .count) (l .inv) (t .loop-test .taken) (rw (h .has-room .ensures) at (not-true (h .has-room .result) (g .if1 .taken))))
 
-slice-aggregate-convert-as : tie.Need-slice-aggregate-convert-as Inv-loop μ-loop
-slice-aggregate-convert-as c = search needs
-
-convert-as-requires : tie.Need-convert-as-requires Inv-loop μ-loop
-convert-as-requires c κs = c .before .before .before .before .before .before .table .ensures
-
-sub-has-room : tie.Need-sub-has-room Inv-loop μ-loop
-sub-has-room c = search needs
-
-has-room-requires : tie.Need-has-room-requires Inv-loop μ-loop
-has-room-requires c κs = search needs
+stops-requires : tie.Need-stops-requires Inv-loop μ-loop
+stops-requires c κs = search needs
 
 sent-requires-2 : tie.Need-sent-requires-2 Inv-loop μ-loop
 sent-requires-2 c κs = search needs
@@ -68,16 +63,19 @@ same-length-2 c = search needs
 
 returns-2 : tie.Need-returns-2 Inv-loop μ-loop
 returns-2 c =
-    let g = c .before in
-    let h = g .before in
-    let v = h .before in
-    let f = v .before .before in
-    let t = f .before .before .before in
+    let f = c .before in
+    let t = f .before .before .before .before .before in
     let m = t .before in
     let l = m .loop in
     let a = m .before .before .before .before .args in
     rw (c .sent2 .ensures)
-    (no-room (a .o) (a .start) (a .first) (a .plain) (now (a .bytes)) (now (a .out)) (l .sender) (l .asks) (l .taken) (l .out) (l .count) (l .inv) (t .loop-test .taken) (rw (f .before .stops .ensures) at (f .if1 .left)) (rw (h .has-room .ensures, v .convert-as .ensures) at (not-true (h .has-room .result) (g .if2 .taken))))
+    (at-special (a .o) (a .start) (a .first) (a .plain) (now (a .bytes)) (now (a .out)) (l .sender) (l .asks) (l .taken) (l .out) (l .count) (l .inv) (t .loop-test .taken) (rw (f .before .stops .ensures) at (f .if2 .taken)))
+
+slice-aggregate-convert-as : tie.Need-slice-aggregate-convert-as Inv-loop μ-loop
+slice-aggregate-convert-as c = search needs
+
+convert-as-requires : tie.Need-convert-as-requires Inv-loop μ-loop
+convert-as-requires c κs = c .before .before .before .before .before .before .before .before .table .ensures
 
 sub-put-asked : tie.Need-sub-put-asked Inv-loop μ-loop
 sub-put-asked c = search needs
@@ -90,10 +88,11 @@ part-put-asked-end c = search needs
 
 put-asked-requires : tie.Need-put-asked-requires Inv-loop μ-loop
 put-asked-requires c κs =
-    let g = c .before in
+    let v = c .before in
+    let g = v .before .before .before .before in
     let h = g .before in
-    let l = h .before .before .before .before .before .before .before .loop in
-    rw (free-length (l .out) (l .count)) (leb-true _ _ (rw (h .has-room .ensures) at (not-false (h .has-room .result) (g .if2 .left))))
+    let l = h .before .before .before .loop in
+    rw (free-length (l .out) (l .count), v .convert-as .ensures) (leb-true _ _ (rw (h .has-room .ensures) at (not-false (h .has-room .result) (g .if1 .left))))
 
 next-asks-requires : tie.Need-next-asks-requires Inv-loop μ-loop
 next-asks-requires c κs = search needs
@@ -116,16 +115,16 @@ loop-less c = omega (arith, c .before .before .before .before .before .before .b
 loop-again : tie.Need-loop-again Inv-loop μ-loop
 loop-again c =
     let p = c .before .before .before .before .before in
-    let g = p .before .before in
-    let h = g .before in
-    let v = h .before in
+    let v = p .before .before in
     let f = v .before .before in
-    let t = f .before .before .before in
+    let g = f .before .before in
+    let h = g .before in
+    let t = h .before .before in
     let m = t .before in
     let l = m .loop in
     let a = m .before .before .before .before .args in
     rw (c .before .before .next-asks .ensures)
-    (sends-on (a .o) (a .start) (a .first) (a .plain) (now (a .bytes)) (now (a .out)) (l .sender) (l .asks) (l .taken) (l .out) (l .count) (l .inv) (t .loop-test .taken) (rw (f .before .stops .ensures) at (f .if1 .left)) (rw (h .has-room .ensures, v .convert-as .ensures) at (not-false (h .has-room .result) (g .if2 .left))) _ (p .put-asked .result) (rw (v .convert-as .ensures) at (p .put-asked .ensures)))
+    (sends-on (a .o) (a .start) (a .first) (a .plain) (now (a .bytes)) (now (a .out)) (l .sender) (l .asks) (l .taken) (l .out) (l .count) (l .inv) (t .loop-test .taken) (rw (h .has-room .ensures) at (not-false (h .has-room .result) (g .if1 .left))) (rw (f .before .stops .ensures) at (f .if2 .left)) _ (p .put-asked .result) (rw (v .convert-as .ensures) at (p .put-asked .ensures)))
 
 sent-requires-3 : tie.Need-sent-requires-3 Inv-loop μ-loop
 sent-requires-3 c κs = search needs
@@ -149,17 +148,17 @@ send-spec =
     table-requires
     loop-holds
     shared-slice-read-b
-    stops-requires
+    sub-has-room
+    has-room-requires
     sent-requires
     same-length
     returns
-    slice-aggregate-convert-as
-    convert-as-requires
-    sub-has-room
-    has-room-requires
+    stops-requires
     sent-requires-2
     same-length-2
     returns-2
+    slice-aggregate-convert-as
+    convert-as-requires
     sub-put-asked
     part-put-asked-start
     part-put-asked-end
