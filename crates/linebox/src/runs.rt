@@ -87,7 +87,7 @@ fn run_text(s: State, input: &[u8], line: &mut [u8]) -> Ran
     }
 }
 
-// The plain text that comes next, as far as there is surely room.
+// The plain text that comes next, as far as there is room.
 pub fn take_text(s: State, input: &[u8], line: &mut [u8]) -> Ran
     requires { ⌜ sound s ≡ true ⌝ }
     ensures { λ r. ⌜ Runs Names·Host s (now (input .entry)) (now (line .entry)) (now (line .exit)) r ⌝ }
@@ -121,7 +121,7 @@ fn run_codes(s: State, codes: &[u8], line: &mut [u8]) -> Ran
     }
 }
 
-// The TU codes that come next, as far as there is surely room.
+// The TU codes that come next, as far as there is room.
 pub fn take_codes(s: State, codes: &[u8], line: &mut [u8]) -> Ran
     requires { ⌜ sound s ≡ true ⌝ }
     ensures { λ r. ⌜ Runs Names·Tu s (now (codes .entry)) (now (line .entry)) (now (line .exit)) r ⌝ }
