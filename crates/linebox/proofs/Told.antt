@@ -1,16 +1,16 @@
 -- The promise of a call leaves one outcome: each number has one answer, so what is told fixes what the code gives.
 -- Assumes nothing.
-use Prim.Native.Nat.{ℕ, zero, suc}
+use Prim.Native.Nat.{ℕ}
 use mathlib.Core.Path.{_≡_, refl, sym, ap, _∙_}
+use mathlib.Core.Bool.{cond}
 use mathlib.Core.List.{List}
+use lib.Dec.{eqb}
 use Rattle.linebox.specs.Names.{Answer, All, NoRoom, NoCode, Unsound, Called}
 use Rattle.linebox.specs.Call.{numberOf, Done, Told, told, Calls, CallsOne}
 
+-- the answer that has a number
 abbrev answerOf : ℕ → Answer
-answerOf zero = All
-answerOf (suc zero) = NoRoom
-answerOf (suc (suc zero)) = NoCode
-answerOf (suc (suc (suc n))) = Unsound
+answerOf n = cond (eqb n (numberOf All)) All (cond (eqb n (numberOf NoRoom)) NoRoom (cond (eqb n (numberOf NoCode)) NoCode Unsound))
 
 numbered : (a : Answer) → answerOf (numberOf a) ≡ a
 numbered All = refl
