@@ -38,10 +38,12 @@ pub record BoardsOne (b : List ℕ) (d : Done) (old state now done : List ℕ) (
   pub told : done ≡ d .taken ∷ length (d .first) ∷ []
   pub one : now ≡ fronted old (d .first)
 
--- The promises of the calls: a host or a line call, and a TU call, on the state's bytes b.
+-- The promises of the calls, on the state's bytes b.
 
+-- a host or a line call
 abbrev pub Boarded : Stream → List ℕ → List ℕ → List ℕ → List ℕ → List ℕ → List ℕ → List ℕ → List ℕ → ℕ → Type 0
 Boarded t b xs old₁ old₂ state now₁ now₂ done r = Boards b (asked t b xs (length old₁) (length old₂)) old₁ old₂ state now₁ now₂ done r
 
+-- a TU call
 abbrev pub BoardedTu : List ℕ → List ℕ → List ℕ → List ℕ → List ℕ → List ℕ → ℕ → Type 0
 BoardedTu b xs old state now done r = BoardsOne b (asked Tu b xs (length old) 0) old state now done r

@@ -21,7 +21,7 @@ use Rattle.demands.specs.Names.known
 use Rattle.demands.specs.Names.column
 use Rattle.demands.specs.Names.last
 use Rattle.demands.specs.Asks.{isShift, codeIn}
-use Rattle.demands.specs.Printing.{Stretch, codesOf, GoesOut, Endings, charactersOf, ownPrints, Printed}
+use Rattle.demands.specs.Printing.{Stretch, codesIn, GoesOut, Endings, charactersOf, ownPrints, Printed}
 use Rattle.demands.proofs.Reading.{reads}
 
 -- Two lists joined.
@@ -34,13 +34,13 @@ hears-append : (p : Printer) (xs ys : List ℕ) → hears p (xs ++ ys) ≡ hears
 hears-append p [] ys = refl
 hears-append p (x ∷ xs) ys = hears-append (hear p x) xs ys
 
-codes-append : (xs ys : List Stretch) → codesOf (xs ++ ys) ≡ codesOf xs ++ codesOf ys
+codes-append : (xs ys : List Stretch) → codesIn (xs ++ ys) ≡ codesIn xs ++ codesIn ys
 codes-append [] ys = refl
 codes-append (x ∷ xs) ys = rw (codes-append xs ys, append-assoc)
 
-own-append : (p : Printer) (xs ys : List Stretch) → ownPrints p (xs ++ ys) ≡ ownPrints p xs ++ ownPrints (hears p (codesOf xs)) ys
+own-append : (p : Printer) (xs ys : List Stretch) → ownPrints p (xs ++ ys) ≡ ownPrints p xs ++ ownPrints (hears p (codesIn xs)) ys
 own-append p [] ys = refl
-own-append p (x ∷ xs) ys = rw (own-append (hears p (x .codes)) xs ys, hears-append p (x .codes) (codesOf xs), append-assoc)
+own-append p (x ∷ xs) ys = rw (own-append (hears p (x .codes)) xs ys, hears-append p (x .codes) (codesIn xs), append-assoc)
 
 module _ (o : Settings) where
   endings-append : (xs ys : List Stretch) → Endings o xs → Endings o ys → Endings o (xs ++ ys)
@@ -165,13 +165,13 @@ module _ (o : Settings) where
 
   -- With 49 off there is no ending, and all that is printed was asked for.
   module _ (off : o .endings ≡ false) where
-    all-own : (p : Printer) (xs : List Stretch) → Endings o xs → ownPrints p xs ≡ charactersOf (sheet p (codesOf xs))
+    all-own : (p : Printer) (xs : List Stretch) → Endings o xs → ownPrints p xs ≡ charactersOf (sheet p (codesIn xs))
     all-own p [] h = refl
     all-own p (x ∷ xs) h =
         go (x .ending) refl
         ∙ ap (λ (u : List ℕ). charactersOf (sheet p (x .codes)) ++ u) (all-own (hears p (x .codes)) xs (h .1))
-        ∙ sym (characters-append (sheet p (x .codes)) (sheet (hears p (x .codes)) (codesOf xs)))
-        ∙ ap charactersOf (sym (sheet-append p (x .codes) (codesOf xs)))
+        ∙ sym (characters-append (sheet p (x .codes)) (sheet (hears p (x .codes)) (codesIn xs)))
+        ∙ ap charactersOf (sym (sheet-append p (x .codes) (codesIn xs)))
       where
         rest : List ℕ
         rest = ownPrints (hears p (x .codes)) xs

@@ -14,7 +14,7 @@ use Rattle.settings.specs.Table.{factory}
 use Rattle.printer.specs.Printer.{hear, hears, markAs, printsAs, sheet}
 use Rattle.sender.specs.Ending.{untilZero}
 use Rattle.demands.specs.Names.{Letters, Kind, Still, Space, Return, Shift, Char, Settings, Printer, Mark}
-use Rattle.demands.specs.Printing.{Stretch, codesOf, GoesOut, Endings, charactersOf, ownPrints, Printed}
+use Rattle.demands.specs.Printing.{Stretch, codesIn, GoesOut, Endings, charactersOf, ownPrints, Printed}
 use Rattle.demands.specs.WrongEndings.{printsMore, filtered, ended}
 use Rattle.demands.proofs.Stretches.{plain-printed}
 
@@ -67,26 +67,26 @@ module _ (o : Settings) where
   goes-length (GoesOut.Returned e on h) = omega (arith, goes-length h)
 
   module _ (three : marks (untilZero (o .string)) ≡ 3) (five : length (untilZero (o .string)) ≡ 5) where
-    own-count : (p : Printer) (xs : List Stretch) → Endings o xs → length (ownPrints p xs) + 3 * endingsIn xs ≡ marks (codesOf xs)
+    own-count : (p : Printer) (xs : List Stretch) → Endings o xs → length (ownPrints p xs) + 3 * endingsIn xs ≡ marks (codesIn xs)
     own-count p [] h = omega arith
     own-count p (x ∷ xs) h = go (x .ending) (h .0) (own-count (hears p (x .codes)) xs (h .1))
       where
         rest : List ℕ
         rest = ownPrints (hears p (x .codes)) xs
 
-        go : (b : Bool) → (b ≡ true → (o .endings ≡ true) × GoesOut o (untilZero (o .string)) (x .codes)) → length rest + 3 * endingsIn xs ≡ marks (codesOf xs)
-            → length (cond b [] (charactersOf (sheet p (x .codes))) ++ rest) + 3 * (cond b 1 0 + endingsIn xs) ≡ marks (x .codes ++ codesOf xs)
-        go true e t = omega (arith, t, three, marks-append (x .codes) (codesOf xs), goes-marks (e refl .1))
-        go false e t = omega (arith, t, marks-append (x .codes) (codesOf xs), marked p (x .codes), length-append (charactersOf (sheet p (x .codes))) rest)
+        go : (b : Bool) → (b ≡ true → (o .endings ≡ true) × GoesOut o (untilZero (o .string)) (x .codes)) → length rest + 3 * endingsIn xs ≡ marks (codesIn xs)
+            → length (cond b [] (charactersOf (sheet p (x .codes))) ++ rest) + 3 * (cond b 1 0 + endingsIn xs) ≡ marks (x .codes ++ codesIn xs)
+        go true e t = omega (arith, t, three, marks-append (x .codes) (codesIn xs), goes-marks (e refl .1))
+        go false e t = omega (arith, t, marks-append (x .codes) (codesIn xs), marked p (x .codes), length-append (charactersOf (sheet p (x .codes))) rest)
 
-    code-count : (xs : List Stretch) → Endings o xs → 5 * endingsIn xs ≤ length (codesOf xs)
+    code-count : (xs : List Stretch) → Endings o xs → 5 * endingsIn xs ≤ length (codesIn xs)
     code-count [] h = omega arith
     code-count (x ∷ xs) h = go (x .ending) (h .0) (code-count xs (h .1))
       where
-        go : (b : Bool) → (b ≡ true → (o .endings ≡ true) × GoesOut o (untilZero (o .string)) (x .codes)) → 5 * endingsIn xs ≤ length (codesOf xs)
-            → 5 * (cond b 1 0 + endingsIn xs) ≤ length (x .codes ++ codesOf xs)
-        go true e t = omega (arith, t, five, length-append (x .codes) (codesOf xs), goes-length (e refl .1))
-        go false e t = omega (arith, t, length-append (x .codes) (codesOf xs))
+        go : (b : Bool) → (b ≡ true → (o .endings ≡ true) × GoesOut o (untilZero (o .string)) (x .codes)) → 5 * endingsIn xs ≤ length (codesIn xs)
+            → 5 * (cond b 1 0 + endingsIn xs) ≤ length (x .codes ++ codesIn xs)
+        go true e t = omega (arith, t, five, length-append (x .codes) (codesIn xs), goes-length (e refl .1))
+        go false e t = omega (arith, t, length-append (x .codes) (codesIn xs))
 
 -- With string 90 as the factory has it, and any printer.
 module _ (o : Settings) (string : o .string ≡ factory .string) (p : Printer) where

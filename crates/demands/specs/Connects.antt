@@ -13,10 +13,12 @@ connecting s (One b) = false
 connecting s (Two b) = false
 connecting s (Finished v count) = commanded (s .settings) (s .connection) v count (s .reader .values) .stored .connected
 
+-- commands come in host bytes alone
 abbrev pub connectsBy : Stream → State → ℕ → Bool
 connectsBy Host s b = connecting s (read (s .reader) b .out)
 connectsBy Line s c = false
 connectsBy Tu s c = false
 
+-- with this byte
 abbrev pub connects : State → Event → Bool
 connects s e = connectsBy (e .stream) s (e .byte)

@@ -24,9 +24,10 @@ pub record Stretch : Type 0 where
   pub ending : Bool
   pub codes : List ℕ
 
-abbrev pub codesOf : List Stretch → List ℕ
-codesOf [] = []
-codesOf (x ∷ xs) = x .codes ++ codesOf xs
+-- their codes, one after the other
+abbrev pub codesIn : List Stretch → List ℕ
+codesIn [] = []
+codesIn (x ∷ xs) = x .codes ++ codesIn xs
 
 -- a string as it goes out, code by code: LTRS may stand before a code that depends on case, and after a space with 70 on or a
 -- return with 71 on
@@ -42,6 +43,7 @@ abbrev pub Endings : Settings → List Stretch → Type 0
 Endings o [] = Unit {0}
 Endings o (x ∷ xs) = (x .ending ≡ true → (o .endings ≡ true) × GoesOut o (untilZero (o .string)) (x .codes)) × Endings o xs
 
+-- the characters of marks, wherever they landed
 abbrev pub charactersOf : List Mark → List ℕ
 charactersOf [] = []
 charactersOf (m ∷ ms) = m .character ∷ charactersOf ms
@@ -54,7 +56,7 @@ ownPrints p (x ∷ xs) = cond (x .ending) [] (charactersOf (sheet p (x .codes)))
 -- codes print exactly what is asked for, beside endings
 pub record Printed (o : Settings) (p : Printer) (codes asked : List ℕ) : Type 0 where
   pub stretches : List Stretch
-  pub whole : codes ≡ codesOf stretches
+  pub whole : codes ≡ codesIn stretches
   pub endings : Endings o stretches
   pub own : ownPrints p stretches ≡ asked
 

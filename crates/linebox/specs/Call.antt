@@ -70,13 +70,15 @@ pub record Told : Type 0 where
   pub second : ℕ
   pub state : State
 
+-- by the definition
 abbrev pub called : Done → Told
 called d = record { answer = d .answer; taken = d .taken; first = length (d .first); second = length (d .second); state = d .state }
 
--- by what the code gives
+-- by the code, whose answer has its number
 abbrev pub told : Called → Told
 told r = record { answer = numberOf (r .answer); taken = r .taken; first = r .first; second = r .second; state = r .state }
 
+-- what the code gives
 abbrev pub endedAt : Answer → ℕ → ℕ → ℕ → State → Called
 endedAt answer taken first second s = record { answer = answer; taken = taken; first = first; second = second; state = s }
 

@@ -1,4 +1,5 @@
--- A session of calls for C, byte by byte: the log sheet's example in two calls, cut inside the text, and a TU call that mode 1 drops.
+-- A session of four calls for C, byte by byte: the log sheet's example in three host calls, cut inside the text, the second of which
+-- stops for want of room; and a TU call that mode 1 drops.
 use Prim.Native.Nat.{ℕ}
 use mathlib.Core.List.{List, [], _∷_, _++_}
 use lib.ListN.{replicate}
@@ -30,35 +31,28 @@ opened = record {
   second = connected ++ replicate 3 0;
 }
 
--- `Y1`, in a buffer of two places, which the figure does not fit
-abbrev pub short : Wire
-short = record {
+-- text after `TT`, with two places for codes and none for answers: the bytes, the answer, the case on record after it, `done` and the codes
+abbrev going : List ℕ → ℕ → ℕ → List ℕ → List ℕ → Wire
+going text answer case done codes = record {
   stream = Host;
   state = bytes 1 1 60 1;
-  bytes = 89 ∷ 49 ∷ [];
+  bytes = text;
   one = 0 ∷ 0 ∷ [];
   two = [];
-  answer = 1;
-  after = bytes 1 1 60 1;
-  done = 1 ∷ 1 ∷ 0 ∷ [];
-  first = 21 ∷ 0 ∷ [];
+  answer = answer;
+  after = bytes 1 1 60 case;
+  done = done;
+  first = codes;
   second = [];
 }
 
+-- `Y1`, of which the figure does not fit
+abbrev pub short : Wire
+short = going (89 ∷ 49 ∷ []) 1 1 (1 ∷ 1 ∷ 0 ∷ []) (21 ∷ 0 ∷ [])
+
 -- `1` again
 abbrev pub again : Wire
-again = record {
-  stream = Host;
-  state = bytes 1 1 60 1;
-  bytes = 49 ∷ [];
-  one = 0 ∷ 0 ∷ [];
-  two = [];
-  answer = 0;
-  after = bytes 1 1 60 2;
-  done = 1 ∷ 2 ∷ 0 ∷ [];
-  first = 27 ∷ 23 ∷ [];
-  second = [];
-}
+again = going (49 ∷ []) 0 2 (1 ∷ 2 ∷ 0 ∷ []) (27 ∷ 23 ∷ [])
 
 -- a code from the TU
 abbrev pub dropped : Wire

@@ -13,6 +13,7 @@ use Rattle.onboard.specs.OneCall.{Wire, Promised, seen}
 abbrev pub asExchange : Wire → Exchange
 asExchange c = record { lent = record { stream = c .stream; bytes = c .bytes; one = c .one; two = c .two }; gave = seen c }
 
+-- and many
 abbrev pub asExchanges : List Wire → List Exchange
 asExchanges [] = []
 asExchanges (c ∷ cs) = asExchange c ∷ asExchanges cs
