@@ -17,6 +17,7 @@ use table::id_of;
 
 mod answer;
 mod faults;
+mod options;
 mod store;
 mod string;
 mod table;

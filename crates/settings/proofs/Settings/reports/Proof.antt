@@ -1,0 +1,13 @@
+-- `settings::Settings::reports` meets its contract: the field is the setting's home.
+-- Assumes nothing.
+use borrow.Author.Needs.{needs}
+use Rattle.settings.specs.Options.{reports}
+use Rattle.settings.proofs.Settings.reports.Statement.{statement}
+use Rattle.settings.proofs.Settings.reports.Tie as tie
+
+returns : tie.Need-returns
+unfolding reports
+returns c = search needs
+
+pub reports-spec : {M : Type 1} → statement M
+reports-spec = tie.close (tie.spec returns)

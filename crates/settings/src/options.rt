@@ -1,0 +1,55 @@
+// The settings by name.
+ghost use mathlib.Core.Path.{_≡_};
+ghost use Rattle.settings.specs.Options.{endings, limit, onspace, onreturn, filter, reports, endingCodes};
+use crate::Settings;
+
+impl Settings {
+    // Option 49: line endings.
+    pub fn endings(self) -> bool
+        ensures { λ r. ⌜ r ≡ endings self ⌝ }
+    {
+        self.endings
+    }
+
+    // Option 50: their limit.
+    pub fn limit(self) -> u8
+        ensures { λ r. ⌜ r ≡ limit self ⌝ }
+    {
+        self.limit
+    }
+
+    // Option 70: unshift on space.
+    pub fn onspace(self) -> bool
+        ensures { λ r. ⌜ r ≡ onspace self ⌝ }
+    {
+        self.onspace
+    }
+
+    // Option 71: unshift on return.
+    pub fn onreturn(self) -> bool
+        ensures { λ r. ⌜ r ≡ onreturn self ⌝ }
+    {
+        self.onreturn
+    }
+
+    // Option 72: the filter of shifts.
+    pub fn filter(self) -> bool
+        ensures { λ r. ⌜ r ≡ filter self ⌝ }
+    {
+        self.filter
+    }
+
+    // Option 74: SI/SO reports.
+    pub fn reports(self) -> bool
+        ensures { λ r. ⌜ r ≡ reports self ⌝ }
+    {
+        self.reports
+    }
+
+    // String 90: the line ending.
+    pub fn ending_codes(self) -> [u8; 8]
+        ensures { λ r. ⌜ r ≡ endingCodes self ⌝ }
+    {
+        self.string
+    }
+}
