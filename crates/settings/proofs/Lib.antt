@@ -1,4 +1,6 @@
 pub mod Walk
 pub mod Accept
+pub mod Rows
+pub mod Held
 pub mod Written
 pub mod Sent

@@ -1,24 +1,27 @@
 -- What a command answers can be sent: its numbers are those of a message, of at most 36 bytes.
 -- Assumes nothing.
 use Prim.Native.Nat.{ℕ, suc, _+_, _*_, _/_, _%_, _≤_}
-use mathlib.Core.Path.{_≡_, refl, sym, subst}
+use mathlib.Core.Path.{_≡_, refl, sym, subst, _∙_}
 use mathlib.Core.Bool.{Bool, true, false, cond, _&&_, _||_, false≢true}
 use mathlib.Core.List.{List, [], _∷_}
 use native.Mathlib.Nat.{le-trans}
 use native.Mathlib.Omega.{arith}
-use borrow.Author.Tests.{leb-true, ltb-false, eqb-true}
+use borrow.Author.Tests.{leb-true, ltb-true, ltb-false, eqb-true}
 use lib.Dec.{eqb, leb, ltb, lit≤}
 use lib.ListN.{length, getD, drop, length-append}
 use Rattle.message.specs.Message.{crlf, digit, digits, numbers, framed}
 use Rattle.message.specs.Find.{AllBytes, Counted}
-use Rattle.settings.specs.Names.{Outcome, Verb, Settings, Connection, Mode1, Mode4, Mode10, Mode11, Id, Version, Ascii, Baudot, Spacing, Marking, Endings, Limit, OnSpace, OnReturn, Filter, Reports, Ending, Factory, Undefined, Fault, Stored}
+use Rattle.settings.specs.Names.{Outcome, Verb, Settings, Connection, Home, Version, Linked, Unlinked, Value, String, Factory, Nowhere, Row, Fault, Stored}
 use Rattle.settings.specs.Names.fault
-use Rattle.settings.specs.Table.{between, isSpeed, allCodes, early, padded, opens, soundString, idOf, soundConnection}
-use Rattle.settings.specs.Command.{faultOf, numberOf, bit, obey, connectionNumbers, reading, kept, outcome, answered, commanded}
+use Rattle.settings.specs.Table.{between, isSpeed, allCodes, early, padded, opens, soundString, soundSettings, options, row, connects, soundLink, soundConnection}
+use Rattle.settings.specs.Command.{faultOf, numberOf, obey, told, answering, reading, kept, outcome, answered, commanded}
+use Rattle.settings.specs.Options.{endingCodes}
 use Rattle.settings.specs.Laws.{answerOf, Sound, Sendable, Short}
 use Rattle.settings.proofs.Accept.{accepted}
 use Rattle.laws.proofs.Both.{both}
-use Rattle.settings.proofs.Written.{answer-outcome, defined, parts, obey-sound}
+use Rattle.settings.proofs.Rows.{lowAt, highAt, fitsHome, numberFits, row-fits, row-number}
+use Rattle.settings.proofs.Held.{values-in, value-in, eight-codes, ending-sound}
+use Rattle.settings.proofs.Written.{answer-outcome, defined, obey-sound}
 
 -- How long a message is.
 
@@ -58,6 +61,15 @@ eight : length (digits 8) ≡ 1
 unfolding digits
 eight = refl
 
+below : (n : ℕ) → leb n 99 ≡ true → length (digits n) ≤ 2
+unfolding digits
+below n h = go (ltb n 10) (ltb n 100) refl
+  where
+    go : (a b : Bool) → ltb n 100 ≡ b → length (cond a (digit n ∷ []) (cond b (digit (n / 10) ∷ digit (n % 10) ∷ []) (digit (n / 100) ∷ digit (n / 10 % 10) ∷ digit (n % 10) ∷ []))) ≤ 2
+    go true b e = lit≤ tt
+    go false true e = lit≤ tt
+    go false false e = absurd (omega (arith, ltb-false n 100 e, leb-true n 99 h))
+
 -- a line ending has an 8 in it
 ending : (cs : List ℕ) → allCodes cs ≡ true → opens cs ≡ true → suc (length (numbers cs)) ≤ 3 * length cs
 ending [] h o = absurd (false≢true o)
@@ -96,10 +108,6 @@ code-bytes (c ∷ cs) h =
     let b = both (leb c 31) (allCodes cs) h in
     (le-trans (leb-true c 31 (b .0)) (lit≤ tt), code-bytes cs (b .1))
 
-on-byte : (b : Bool) → bit b ≤ 255
-on-byte true = lit≤ tt
-on-byte false = lit≤ tt
-
 fault-byte : (f : Fault) → numberOf f ≤ 255
 fault-byte fault.Nothing = lit≤ tt
 fault-byte fault.Type = lit≤ tt
@@ -119,37 +127,51 @@ link id last port speed′ i l h =
     let b = both (between 1 last port) (isSpeed speed′) h in
     few (id ∷ 2 ∷ port ∷ speed′ ∷ []) (i, (lit≤ tt, (within 1 last port l (b .0), (speed speed′ (b .1), tt)))) refl (lit≤ tt)
 
-connected : (c : Connection) → soundConnection c ≡ true → Sendable (connectionNumbers c)
-connected (Mode1 port speed′) h = link 1 4 port speed′ (lit≤ tt) (lit≤ tt) h
-connected (Mode4 port speed′) h = link 4 3 port speed′ (lit≤ tt) (lit≤ tt) h
-connected Mode10 h = few (10 ∷ 0 ∷ []) (lit≤ tt, (lit≤ tt, tt)) refl (lit≤ tt)
-connected Mode11 h = few (11 ∷ 0 ∷ []) (lit≤ tt, (lit≤ tt, tt)) refl (lit≤ tt)
-
 one : (id n : ℕ) → id ≤ 255 → n ≤ 255 → Sendable (id ∷ 1 ∷ n ∷ [])
 one id n i h = few (id ∷ 1 ∷ n ∷ []) (i, (lit≤ tt, (h, tt))) refl (lit≤ tt)
 
-string : (cs : List ℕ) → soundString cs ≡ true → length cs ≡ 8 → Sendable (90 ∷ 8 ∷ cs)
-unfolding soundString digits
-string cs h l =
+string : (id : ℕ) (cs : List ℕ) → leb id 99 ≡ true → soundString cs ≡ true → length cs ≡ 8 → Sendable (id ∷ length cs ∷ cs)
+unfolding soundString
+string id cs i h l =
     let b = both (allCodes cs) (padded cs && opens cs) h in
     let o = both (padded cs) (opens cs) (b .1) in
-    record { bytes = (lit≤ tt, (lit≤ tt, code-bytes cs (b .0))); counted = sym l; few = omega arith; short = omega (arith, frame (90 ∷ 8 ∷ cs), ending cs (b .0) (o .1)) }
+    let k = leb-true id 99 i in
+    let e : length (digits (length cs)) ≡ 1 = rw l eight in
+    record { bytes = (le-trans k (lit≤ tt), (omega arith, code-bytes cs (b .0))); counted = refl; few = omega arith; short = omega (arith, frame (id ∷ length cs ∷ cs), comma id (length cs ∷ cs), comma (length cs) cs, below id i, ending cs (b .0) (o .1)) }
 
-read : (t : Stored) (id : Id) → Sound (t .settings) (t .connection) → (id ≡ Undefined → ⊥) → Sendable (reading t id)
-read t Version h d = few (0 ∷ 4 ∷ 0 ∷ 0 ∷ 1 ∷ 0 ∷ []) (lit≤ tt, (lit≤ tt, (lit≤ tt, (lit≤ tt, (lit≤ tt, (lit≤ tt, tt)))))) refl (lit≤ tt)
-read t Ascii h d = connected (t .connection) (h .connection)
-read t Baudot h d = connected (t .connection) (h .connection)
-read t Spacing h d = connected (t .connection) (h .connection)
-read t Marking h d = connected (t .connection) (h .connection)
-read t Endings h d = one 49 (bit (t .settings .endings)) (lit≤ tt) (on-byte (t .settings .endings))
-read t Limit h d = one 50 (t .settings .limit) (lit≤ tt) (within 10 80 (t .settings .limit) (lit≤ tt) (parts (t .settings) (t .connection) h .0))
-read t OnSpace h d = one 70 (bit (t .settings .onspace)) (lit≤ tt) (on-byte (t .settings .onspace))
-read t OnReturn h d = one 71 (bit (t .settings .onreturn)) (lit≤ tt) (on-byte (t .settings .onreturn))
-read t Filter h d = one 72 (bit (t .settings .filter)) (lit≤ tt) (on-byte (t .settings .filter))
-read t Reports h d = one 74 (bit (t .settings .reports)) (lit≤ tt) (on-byte (t .settings .reports))
-read t Ending h d = string (t .settings .string) (parts (t .settings) (t .connection) h .1) (h .places)
-read t Factory h d = few (250 ∷ 0 ∷ []) (lit≤ tt, (lit≤ tt, tt)) refl (lit≤ tt)
-read t Undefined h d = absurd (d refl)
+option-byte : (s : Settings) (i low high : ℕ) (w r : Bool) → soundSettings s ≡ true → fitsHome (Value i low high) w r ≡ true → getD (s .values) i 0 ≤ 255
+option-byte s i low high w r h f =
+    let b = both r _ f .1 in
+    let p = both (ltb i (length options) && leb high 255) (eqb low (lowAt options i) && eqb high (highAt options i)) b in
+    let q = both (ltb i (length options)) (leb high 255) (p .0) in
+    let e = eqb-true high (highAt options i) (both (eqb low (lowAt options i)) (eqb high (highAt options i)) (p .1) .1) in
+    within (lowAt options i) (highAt options i) (getD (s .values) i 0) (omega (arith, leb-true high 255 (q .1), e)) (value-in options (s .values) i (values-in s h) (ltb-true i (length options) (q .0)))
+
+linked : (c : Connection) → soundConnection c ≡ true → soundLink (row (c .mode) .home) (c .port) (c .speed) ≡ true
+unfolding soundConnection
+linked c h = h
+
+-- the values of a row, whose number is a byte and which for the connection is its mode's
+tells : (s : Settings) (c : Connection) (r : Row) (h : Home) → Sound s c → r .home ≡ h → numberFits h (r .number) ≡ true → fitsHome h (r .written) (r .read) ≡ true → (connects h ≡ true → soundLink h (c .port) (c .speed) ≡ true) → Sendable (told s c r)
+unfolding endingCodes
+tells s c r Version h e n f l = rw e (few (r .number ∷ 4 ∷ 0 ∷ 0 ∷ 1 ∷ 0 ∷ []) (leb-true (r .number) 255 n, (lit≤ tt, (lit≤ tt, (lit≤ tt, (lit≤ tt, (lit≤ tt, tt)))))) refl (lit≤ tt))
+tells s c r (Linked last) h e n f l = rw e (link (r .number) last (c .port) (c .speed) (leb-true (r .number) 255 n) (leb-true last 255 f) (l refl))
+tells s c r Unlinked h e n f l = rw e (few (r .number ∷ 0 ∷ []) (leb-true (r .number) 255 n, (lit≤ tt, tt)) refl (lit≤ tt))
+tells s c r (Value i low high) h e n f l = rw e (one (r .number) (getD (s .values) i 0) (leb-true (r .number) 255 n) (option-byte s i low high (r .written) (r .read) (h .settings) f))
+tells s c r String h e n f l = rw e (string (r .number) (s .string) n (ending-sound s (h .settings)) (eight-codes s (h .settings)))
+tells s c r Factory h e n f l = rw e (few (r .number ∷ 0 ∷ []) (leb-true (r .number) 255 n, (lit≤ tt, tt)) refl (lit≤ tt))
+tells s c r Nowhere h e n f l = rw e (few (r .number ∷ 0 ∷ []) (leb-true (r .number) 255 n, (lit≤ tt, tt)) refl (lit≤ tt))
+
+-- the connection answers by the row of its mode, in whose range it is, and all else by its own
+read : (t : Stored) (id : ℕ) → Sound (t .settings) (t .connection) → Sendable (reading t (row id))
+read t id h = go (connects (row id .home)) refl
+  where
+    by : (n : ℕ) → (connects (row n .home) ≡ true → soundLink (row n .home) (t .connection .port) (t .connection .speed) ≡ true) → Sendable (told (t .settings) (t .connection) (row n))
+    by n = tells (t .settings) (t .connection) (row n) (row n .home) h refl (row-number n) (row-fits n)
+
+    go : (b : Bool) → connects (row id .home) ≡ b → Sendable (told (t .settings) (t .connection) (cond b (row (t .connection .mode)) (row id)))
+    go true e = by (t .connection .mode) (λ q. linked (t .connection) (h .connection))
+    go false e = by id (λ q. absurd (false≢true (sym e ∙ q)))
 
 -- a command refuses, or succeeds with a message
 module _ (s : Settings) (c : Connection) (h : Sound s c) (v : Verb) (count : ℕ) (fields : List ℕ) (l : length fields ≡ 11) where
@@ -158,14 +180,14 @@ module _ (s : Settings) (c : Connection) (h : Sound s c) (v : Verb) (count : ℕ
 
   answers-by : (P : Outcome → Type 0) → ((f : Fault) → P (outcome (kept s c) (refusing f))) → ((t : Stored) (ns : List ℕ) → Sendable ns → P (outcome t ns)) → P (commanded s c v count fields)
   unfolding commanded
-  answers-by P refuses sends = go (faultOf v count fields) refl
+  answers-by P refuses sends = go (faultOf v (row (getD fields 0 0)) count fields) refl
     where
-      go : (f : Fault) → faultOf v count fields ≡ f → P (answered f s c v fields)
+      go : (f : Fault) → faultOf v (row (getD fields 0 0)) count fields ≡ f → P (answered f s c v (row (getD fields 0 0)) fields)
       go fault.Nothing e =
-          let i = idOf (getD fields 0 0) in
-          let a = accepted v count fields e in
-          let t = obey s c v i (drop 2 fields) in
-          sends t (reading t i) (read t i (obey-sound s c h v _ i fields l a) (defined v i (a .n) (a .takes)))
+          let i = getD fields 0 0 in
+          let a = accepted v (row i) count fields e in
+          let t = obey s c v (row i) (drop 2 fields) in
+          sends t (reading t (row i)) (read t i (obey-sound s c h v _ i fields l (defined v i (a .n) (a .takes)) a))
       go fault.Type e = refuses fault.Type
       go fault.Id e = refuses fault.Id
       go fault.Parameters e = refuses fault.Parameters

@@ -1,34 +1,53 @@
 -- What is written is what was given, and is read back; sound settings and connection stay sound.
 -- Assumes nothing.
-use Prim.Native.Nat.{ℕ, _-_}
-use mathlib.Core.Path.{_≡_, refl, ap, sym, _∙_}
-use mathlib.Core.Bool.{Bool, true, false}
+use Prim.Native.Nat.{ℕ, _-_, _<_}
+use mathlib.Core.Path.{_≡_, refl, ap, sym, subst, _∙_}
+use mathlib.Core.Bool.{Bool, true, false, cond, _&&_, not, false≢true}
 use mathlib.Core.List.{List, [], _∷_}
 use native.Mathlib.Omega.{arith}
-use borrow.Author.Tests.{leb-true, eqb-true, eqb-false}
-use lib.Dec.{eqb, leb}
+use borrow.Author.Tests.{leb-true, ltb-true, eqb-true}
+use lib.Dec.{eqb, leb, ltb}
 use lib.ListN.{length, getD, take, drop, replicate, length-drop}
 use lib.Seq.{length-take-le, take-append-seam}
-use Rattle.settings.specs.Names.{Verb, Write, Read, Other, Settings, Connection, Id, Version, Ascii, Baudot, Spacing, Marking, Endings, Limit, OnSpace, OnReturn, Filter, Reports, Ending, Factory, Undefined, Takes, Count, Fault, Stored}
+use Rattle.laws.proofs.Both.{both}
+use Rattle.settings.specs.Names.{Verb, Write, Read, Other, Settings, Connection, Home, Version, Linked, Unlinked, Value, String, Factory, Nowhere, Row, Takes, Count, Fault, Stored}
 use Rattle.settings.specs.Names.takes
 use Rattle.settings.specs.Names.fault
-use Rattle.settings.specs.Table.{between, inRange, row, idOf, takenBy, isOn, factory, soundString, soundSettings}
-use Rattle.settings.specs.Command.{faultOf, kept, store, obey, bit, reading, outcome, answered, commanded}
+use Rattle.settings.specs.Table.{between, inRange, options, row, connects, width, takesIf, takenBy, factory, allIn, soundString, soundSettings, soundLink, soundConnection}
+use Rattle.settings.specs.Command.{faultOf, kept, withValue, withString, store, obey, valuesAt, told, reading, outcome, answered, commanded}
 use Rattle.settings.specs.Laws.{answerOf, readBy, Sound}
-use Rattle.laws.proofs.Both.{both}
-use Rattle.settings.proofs.Accept.{Accepted, accepted, success, found}
+use Rattle.settings.proofs.Accept.{Accepted, accepted, success}
+use Rattle.settings.proofs.Rows.{lowAt, highAt, fitsHome, found, row-fits}
+use Rattle.settings.proofs.Held.{length-in, set-in, set-get, values-in}
 
 -- the answer of an outcome is the list that it was made of
 pub answer-outcome : (t : Stored) (ns : List ℕ) → answerOf (outcome t ns) ≡ ns
 answer-outcome t ns = take-append-seam ns (replicate (10 - length ns) 0)
 
+-- Rows that a command takes.
+
+-- it can be done, and takes so many
+takes-can : (can : Bool) (w n : ℕ) → takesIf can w ≡ Count n → (can ≡ true) × (w ≡ n)
+takes-can true w n e = (refl, cc)
+takes-can false w n e = let z : _≡_ {A = ℕ} 0 1 = cc in absurd (omega arith)
+
+-- an id that a command takes is in the table
+pub defined : (v : Verb) (id n : ℕ) → takenBy v (row id) ≡ Count n → row id .home ≡ Nowhere → ⊥
+defined v id n e w = go v e
+  where
+    neither : (not (row id .written) && not (row id .read)) ≡ true
+    neither = subst (λ (h : Home). fitsHome h (row id .written) (row id .read) ≡ true) w (row-fits id)
+
+    off : (b : Bool) → b ≡ true → not b ≡ true → ⊥
+    off true e f = false≢true f
+    off false e f = false≢true e
+
+    go : (v : Verb) → takenBy v (row id) ≡ Count n → ⊥
+    go Write e = off (row id .written) (takes-can (row id .written) (width (row id .home)) n e .0) (both (not (row id .written)) (not (row id .read)) neither .0)
+    go Read e = off (row id .read) (takes-can (row id .read) 0 n e .0) (both (not (row id .written)) (not (row id .read)) neither .1)
+    go Other e = let z : _≡_ {A = ℕ} 0 1 = cc in omega arith
+
 -- Values as stored are those given.
-
-never : (n : ℕ) → takes.Nothing ≡ Count n → ⊥
-never n e = let z : _≡_ {A = ℕ} 0 1 = cc in omega arith
-
-counts : (a n : ℕ) → Count a ≡ Count n → a ≡ n
-counts a n e = cc
 
 one : (ps : List ℕ) → length ps ≡ 9 → take 1 ps ≡ getD ps 0 0 ∷ []
 one [] e = absurd (omega (arith, e))
@@ -39,148 +58,156 @@ two [] e = absurd (omega (arith, e))
 two (a ∷ []) e = absurd (omega (arith, e))
 two (a ∷ b ∷ ps) e = refl
 
-bit-on : (x : ℕ) → between 0 1 x ≡ true → bit (isOn x) ≡ x
-bit-on x h = go (eqb x 1) refl
-  where
-    go : (b : Bool) → eqb x 1 ≡ b → bit b ≡ x
-    go true e = sym (eqb-true x 1 e)
-    go false e =
-        let l = leb-true x 1 (both (leb 0 x) (leb x 1) h .1) in
-        omega (arith, eqb-false x 1 e)
+-- the place of an option is one of the settings'
+place-in : (i low high : ℕ) (w r : Bool) → fitsHome (Value i low high) w r ≡ true → i < length options
+place-in i low high w r f =
+    let b = both r _ f .1 in
+    ltb-true i (length options) (both (ltb i (length options)) (leb high 255) (both (ltb i (length options) && leb high 255) _ b .0) .0)
 
--- an id with no parameters, with one that is 0 or 1, and with two
-module _ (ps : List ℕ) (n id : ℕ) where
-  none : Count 0 ≡ Count n → id ∷ 0 ∷ [] ≡ id ∷ n ∷ take n ps
-  none e = rw (← counts 0 n e)
+module _ (s : Settings) (c : Connection) (ps : List ℕ) (nine : length ps ≡ 9) (six : length (s .values) ≡ length options) where
+  stored-values : (h : Home) (n : ℕ) (w r : Bool) → fitsHome h w r ≡ true → w ≡ true → valuesAt (store s c h n ps .settings) (store s c h n ps .connection) h ≡ take (width h) ps
+  stored-values Version n w r f e = absurd (false≢true (rw e at f))
+  stored-values (Linked last) n w r f e = sym (two ps nine)
+  stored-values Unlinked n w r f e = refl
+  stored-values (Value i low high) n w r f e = rw (one ps nine, set-get (s .values) i (getD ps 0 0) (rw six (place-in i low high w r f)))
+  stored-values String n w r f e = refl
+  stored-values Factory n w r f e = refl
+  stored-values Nowhere n w r f e = absurd (false≢true (rw e at f))
 
-  flag : length ps ≡ 9 → between 0 1 (getD ps 0 0) ≡ true → Count 1 ≡ Count n → id ∷ 1 ∷ bit (isOn (getD ps 0 0)) ∷ [] ≡ id ∷ n ∷ take n ps
-  flag l r e = rw (← counts 1 n e, one ps l, bit-on (getD ps 0 0) r)
+-- a write answers under its own id
+own : (s : Settings) (c : Connection) (h : Home) (r : Row) (ps : List ℕ) → row (r .number) ≡ r → r .home ≡ h → reading (store s c h (r .number) ps) r ≡ told (store s c h (r .number) ps .settings) (store s c h (r .number) ps .connection) r
+own s c Version r ps e g = rw g
+own s c (Linked last) r ps e g = rw (g, e, g)
+own s c Unlinked r ps e g = rw (g, e, g)
+own s c (Value i low high) r ps e g = rw g
+own s c String r ps e g = rw g
+own s c Factory r ps e g = rw g
+own s c Nowhere r ps e g = rw g
 
-  link : length ps ≡ 9 → Count 2 ≡ Count n → id ∷ 2 ∷ getD ps 0 0 ∷ getD ps 1 0 ∷ [] ≡ id ∷ n ∷ take n ps
-  link l e = rw (← counts 2 n e, two ps l)
+values-long : (n : ℕ) (ps : List ℕ) (h : Home) → length ps ≡ 9 → length (take (width h) ps) ≡ width h
+values-long n ps Version l = length-take-le 4 ps (omega (arith, l))
+values-long n ps (Linked last) l = length-take-le 2 ps (omega (arith, l))
+values-long n ps Unlinked l = refl
+values-long n ps (Value i low high) l = length-take-le 1 ps (omega (arith, l))
+values-long n ps String l = length-take-le 8 ps (omega (arith, l))
+values-long n ps Factory l = refl
+values-long n ps Nowhere l = refl
 
-values : (s : Settings) (c : Connection) (id : Id) (n : ℕ) (ps : List ℕ) → length ps ≡ 9 → row id .writes ≡ Count n → inRange (row id .range) ps ≡ true → reading (store s c id ps) id ≡ row id .number ∷ n ∷ take n ps
-values s c Version n ps l e r = absurd (never n e)
-values s c Ascii n ps l e r = link ps n 1 l e
-values s c Baudot n ps l e r = link ps n 4 l e
-values s c Spacing n ps l e r = none ps n 10 e
-values s c Marking n ps l e r = none ps n 11 e
-values s c Endings n ps l e r = flag ps n 49 l r e
-values s c Limit n ps l e r = rw (← counts 1 n e, one ps l)
-values s c OnSpace n ps l e r = flag ps n 70 l r e
-values s c OnReturn n ps l e r = flag ps n 71 l r e
-values s c Filter n ps l e r = flag ps n 72 l r e
-values s c Reports n ps l e r = flag ps n 74 l r e
-values s c Ending n ps l e r = rw (← counts 8 n e)
-values s c Factory n ps l e r = none ps n 250 e
-values s c Undefined n ps l e r = absurd (never n e)
-
--- an id that a command takes is in the table
-pub defined : (v : Verb) (id : Id) (n : ℕ) → takenBy v id ≡ Count n → id ≡ Undefined → ⊥
-defined Write id n e u = never n (sym (ap (λ (i : Id). row i .writes) u) ∙ e)
-defined Read id n e u = never n (sym (ap (λ (i : Id). row i .reads) u) ∙ e)
-defined Other id n e u = never n e
-
-module _ (s : Settings) (c : Connection) (count : ℕ) (fields : List ℕ) (eleven : length fields ≡ 11) (ok : faultOf Write count fields ≡ fault.Nothing) where
+module _ (s : Settings) (c : Connection) (count : ℕ) (fields : List ℕ) (eleven : length fields ≡ 11) (six : length (s .values) ≡ length options) (ok : faultOf Write (row (getD fields 0 0)) count fields ≡ fault.Nothing) where
   -- a write answers the id, the number of parameters and the parameters, as they were given
   pub written : answerOf (commanded s c Write count fields) ≡ getD fields 0 0 ∷ getD fields 1 0 ∷ take (getD fields 1 0) (drop 2 fields)
   written =
-      let id = idOf (getD fields 0 0) in
-      let a = accepted Write count fields ok in
+      let id = getD fields 0 0 in
+      let r = row id in
+      let a = accepted Write r count fields ok in
+      let t = takes-can (r .written) (width (r .home)) (a .n) (a .takes) in
       let l : length (drop 2 fields) ≡ 9 = rw (length-drop, eleven) in
-      let v = values s c id (a .n) (drop 2 fields) l (a .takes) (a .inside) in
-      let f = found (getD fields 0 0) (defined Write id (a .n) (a .takes)) in
-      rw (success s c Write count fields ok, answer-outcome, a .number, v, f)
+      let f = found id (defined Write id (a .n) (a .takes)) in
+      let v = stored-values s c (drop 2 fields) l six (r .home) (r .number) (r .written) (r .read) (row-fits id) (t .0) in
+      rw (success s c Write count fields ok, answer-outcome, own s c (r .home) r (drop 2 fields) (ap row f) refl, v, values-long 0 (drop 2 fields) (r .home) l, f, a .number, ← t .1)
 
-read-by : (t : Stored) (id : Id) → reading (kept (t .settings) (t .connection)) (readBy id) ≡ reading t id
-read-by t Version = refl
-read-by t Ascii = refl
-read-by t Baudot = refl
-read-by t Spacing = refl
-read-by t Marking = refl
-read-by t Endings = refl
-read-by t Limit = refl
-read-by t OnSpace = refl
-read-by t OnReturn = refl
-read-by t Filter = refl
-read-by t Reports = refl
-read-by t Ending = refl
-read-by t Factory = refl
-read-by t Undefined = refl
+-- 1 reads the connection
+first : (row 1 .read ≡ true) × (connects (row 1 .home) ≡ true)
+unfolding row
+first = (refl, refl)
+
+-- what was written is read back under its id, or under 1 where it is a connection
+read-by : (t : Stored) (h : Home) (r : Row) → row (r .number) ≡ r → r .home ≡ h → reading (kept (t .settings) (t .connection)) (row (readBy r)) ≡ reading t r
+read-by t Version r e g = rw (g, e, g)
+read-by t (Linked last) r e g = rw (g, first .1)
+read-by t Unlinked r e g = rw (g, first .1)
+read-by t (Value i low high) r e g = rw (g, e, g)
+read-by t String r e g = rw (g, e, g)
+read-by t Factory r e g = rw (g, e, g)
+read-by t Nowhere r e g = rw (g, e, g)
 
 -- a read that follows a write answers the same numbers
-pub read-back : (s : Settings) (c : Connection) (count : ℕ) (fields : List ℕ) (count′ : ℕ) (fields′ : List ℕ) → faultOf Write count fields ≡ fault.Nothing → faultOf Read count′ fields′ ≡ fault.Nothing → idOf (getD fields′ 0 0) ≡ readBy (idOf (getD fields 0 0)) → answerOf (commanded (commanded s c Write count fields .stored .settings) (commanded s c Write count fields .stored .connection) Read count′ fields′) ≡ answerOf (commanded s c Write count fields)
+pub read-back : (s : Settings) (c : Connection) (count : ℕ) (fields : List ℕ) (count′ : ℕ) (fields′ : List ℕ) → faultOf Write (row (getD fields 0 0)) count fields ≡ fault.Nothing → faultOf Read (row (getD fields′ 0 0)) count′ fields′ ≡ fault.Nothing → getD fields′ 0 0 ≡ readBy (row (getD fields 0 0)) → answerOf (commanded (commanded s c Write count fields .stored .settings) (commanded s c Write count fields .stored .connection) Read count′ fields′) ≡ answerOf (commanded s c Write count fields)
 read-back s c count fields count′ fields′ ok ok′ e =
-    let id = idOf (getD fields 0 0) in
-    let t = store s c id (drop 2 fields) in
-    rw (success s c Write count fields ok, success (t .settings) (t .connection) Read count′ fields′ ok′, answer-outcome, answer-outcome, e, read-by t id)
+    let id = getD fields 0 0 in
+    let r = row id in
+    let a = accepted Write r count fields ok in
+    let f = found id (defined Write id (a .n) (a .takes)) in
+    let t = store s c (r .home) (r .number) (drop 2 fields) in
+    rw (success s c Write count fields ok, success (t .settings) (t .connection) Read count′ fields′ ok′, answer-outcome, answer-outcome, e, read-by t (r .home) r (ap row f) refl)
 
 -- and whatever can be written, 250 aside, can be read
-pub readable : (id : Id) (n : ℕ) → row id .writes ≡ Count n → (id ≡ Factory → ⊥) → row (readBy id) .reads ≡ Count 0
-readable Version n e h = refl
-readable Ascii n e h = refl
-readable Baudot n e h = refl
-readable Spacing n e h = refl
-readable Marking n e h = refl
-readable Endings n e h = refl
-readable Limit n e h = refl
-readable OnSpace n e h = refl
-readable OnReturn n e h = refl
-readable Filter n e h = refl
-readable Reports n e h = refl
-readable Ending n e h = refl
-readable Factory n e h = absurd (h refl)
-readable Undefined n e h = absurd (never n e)
+pub readable : (id : ℕ) → row id .written ≡ true → (row id .home ≡ Factory → ⊥) → row (readBy (row id)) .read ≡ true
+readable id w h = go (row id .home) refl
+  where
+    fits : (g : Home) → row id .home ≡ g → fitsHome g true (row id .read) ≡ true
+    fits g e = rw (e, w) at (row-fits id)
+
+    itself : (row id .home ≡ Nowhere → ⊥) → row (row id .number) ≡ row id
+    itself d = ap row (found id d)
+
+    go : (g : Home) → row id .home ≡ g → row (readBy (row id)) .read ≡ true
+    go Version e = absurd (false≢true (fits Version e))
+    go (Linked last) e = rw e (first .0)
+    go Unlinked e = rw e (first .0)
+    go (Value i low high) e = rw (e, itself (λ z. absurd (omega (arith, ap width (sym e ∙ z))))) (both (row id .read) _ (fits (Value i low high) e) .0)
+    go String e = rw (e, itself (λ z. absurd (omega (arith, ap width (sym e ∙ z))))) (fits String e)
+    go Factory e = absurd (h e)
+    go Nowhere e = absurd (false≢true (fits Nowhere e))
 
 -- by its id and 0
-pub read-passes : (fields : List ℕ) → row (idOf (getD fields 0 0)) .reads ≡ Count 0 → getD fields 1 0 ≡ 0 → faultOf Read 2 fields ≡ fault.Nothing
+pub read-passes : (fields : List ℕ) → row (getD fields 0 0) .read ≡ true → getD fields 1 0 ≡ 0 → faultOf Read (row (getD fields 0 0)) 2 fields ≡ fault.Nothing
 read-passes fields t n = rw (t, n)
 
 -- 250 gives the factory settings and keeps the connection
-pub reset : (s : Settings) (c : Connection) (count : ℕ) (fields : List ℕ) → faultOf Write count fields ≡ fault.Nothing → idOf (getD fields 0 0) ≡ Factory → commanded s c Write count fields .stored ≡ kept factory c
+pub reset : (s : Settings) (c : Connection) (count : ℕ) (fields : List ℕ) → faultOf Write (row (getD fields 0 0)) count fields ≡ fault.Nothing → getD fields 0 0 ≡ 250 → commanded s c Write count fields .stored ≡ kept factory c
+unfolding row
 reset s c count fields ok e = rw (success s c Write count fields ok, e)
 
 -- Sound settings and connection stay sound.
 
 -- the factory settings are
 pub factory-sound : soundSettings factory ≡ true
-unfolding soundString
+unfolding soundSettings soundString
 factory-sound = refl
 
 module _ (s : Settings) (c : Connection) (h : Sound s c) where
-  -- the limit is in its range, and the string obeys its rules
-  pub parts : (inRange (row Limit .range) (s .limit ∷ []) ≡ true) × (soundString (s .string) ≡ true)
-  parts = both (inRange (row Limit .range) (s .limit ∷ [])) (soundString (s .string)) (h .settings)
+  -- a value in range
+  set-sound : (i low high n : ℕ) (w r : Bool) → fitsHome (Value i low high) w r ≡ true → between low high n ≡ true → soundSettings (withValue s i n) ≡ true
+  unfolding soundSettings
+  set-sound i low high n w r f b =
+      let at = both (eqb low (lowAt options i)) (eqb high (highAt options i)) (both (ltb i (length options) && leb high 255) _ (both r _ f .1) .1) in
+      let p : between (lowAt options i) (highAt options i) n ≡ true = rw (← eqb-true low (lowAt options i) (at .0), ← eqb-true high (highAt options i) (at .1)) b in
+      let q = both (allIn options (s .values)) (eqb (length (s .string)) 8 && soundString (s .string)) (h .settings) in
+      rw (set-in options (s .values) i n (q .0) p, q .1)
 
-  store-sound : (id : Id) (ps : List ℕ) → length ps ≡ 9 → inRange (row id .range) ps ≡ true → Sound (store s c id ps .settings) (store s c id ps .connection)
-  store-sound Version ps l r = h
-  store-sound Ascii ps l r = record { settings = h .settings; connection = r; places = h .places }
-  store-sound Baudot ps l r = record { settings = h .settings; connection = r; places = h .places }
-  store-sound Spacing ps l r = record { settings = h .settings; connection = refl; places = h .places }
-  store-sound Marking ps l r = record { settings = h .settings; connection = refl; places = h .places }
-  store-sound Endings ps l r = record { settings = h .settings; connection = h .connection; places = h .places }
-  store-sound Limit ps l r = record { settings = rw (r, parts .1); connection = h .connection; places = h .places }
-  store-sound OnSpace ps l r = record { settings = h .settings; connection = h .connection; places = h .places }
-  store-sound OnReturn ps l r = record { settings = h .settings; connection = h .connection; places = h .places }
-  store-sound Filter ps l r = record { settings = h .settings; connection = h .connection; places = h .places }
-  store-sound Reports ps l r = record { settings = h .settings; connection = h .connection; places = h .places }
-  store-sound Ending ps l r = record { settings = rw (parts .0) r; connection = h .connection; places = length-take-le 8 ps (omega arith) }
-  store-sound Factory ps l r = record { settings = factory-sound; connection = h .connection; places = refl }
-  store-sound Undefined ps l r = h
+  string-sound : (ps : List ℕ) → length ps ≡ 9 → soundString (take 8 ps) ≡ true → soundSettings (withString s (take 8 ps)) ≡ true
+  unfolding soundSettings
+  string-sound ps l r = rw (both (allIn options (s .values)) _ (h .settings) .0, length-take-le 8 ps (omega (arith, l)), r)
+
+  link-sound : (r : Row) (g : Home) (ps : List ℕ) → row (r .number) ≡ r → r .home ≡ g → soundLink g (store s c g (r .number) ps .connection .port) (store s c g (r .number) ps .connection .speed) ≡ true → store s c g (r .number) ps .connection .mode ≡ r .number → soundConnection (store s c g (r .number) ps .connection) ≡ true
+  unfolding soundConnection
+  link-sound r g ps e f p q = rw (q, e, f) p
+
+  store-sound : (r : Row) (g : Home) (ps : List ℕ) → row (r .number) ≡ r → r .home ≡ g → fitsHome g (r .written) (r .read) ≡ true → length ps ≡ 9 → inRange g ps ≡ true → Sound (store s c g (r .number) ps .settings) (store s c g (r .number) ps .connection)
+  store-sound r Version ps e f t l i = h
+  store-sound r (Linked last) ps e f t l i = record { settings = h .settings; connection = link-sound r (Linked last) ps e f i refl }
+  store-sound r Unlinked ps e f t l i = record { settings = h .settings; connection = link-sound r Unlinked ps e f refl refl }
+  store-sound r (Value p low high) ps e f t l i = record { settings = set-sound p low high (getD ps 0 0) (r .written) (r .read) t i; connection = h .connection }
+  store-sound r String ps e f t l i = record { settings = string-sound ps l i; connection = h .connection }
+  store-sound r Factory ps e f t l i = record { settings = factory-sound; connection = h .connection }
+  store-sound r Nowhere ps e f t l i = h
 
   -- what a command without error leaves
-  pub obey-sound : (v : Verb) (t : Takes) (id : Id) (fields : List ℕ) → length fields ≡ 11 → Accepted t v id fields → Sound (obey s c v id (drop 2 fields) .settings) (obey s c v id (drop 2 fields) .connection)
-  obey-sound Write t id fields l a = store-sound id (drop 2 fields) (rw (length-drop, l)) (a .inside)
-  obey-sound Read t id fields l a = h
-  obey-sound Other t id fields l a = h
+  pub obey-sound : (v : Verb) (t : Takes) (id : ℕ) (fields : List ℕ) → length fields ≡ 11 → (row id .home ≡ Nowhere → ⊥) → Accepted t v (row id) fields → Sound (obey s c v (row id) (drop 2 fields) .settings) (obey s c v (row id) (drop 2 fields) .connection)
+  obey-sound Write t id fields l d a = store-sound (row id) (row id .home) (drop 2 fields) (ap row (found id d)) refl (row-fits id) (rw (length-drop, l)) (a .inside)
+  obey-sound Read t id fields l d a = h
+  obey-sound Other t id fields l d a = h
 
   -- under any command
   pub stays : (v : Verb) (count : ℕ) (fields : List ℕ) → length fields ≡ 11 → Sound (commanded s c v count fields .stored .settings) (commanded s c v count fields .stored .connection)
   unfolding commanded
-  stays v count fields l = go (faultOf v count fields) refl
+  stays v count fields l = go (faultOf v (row (getD fields 0 0)) count fields) refl
     where
-      go : (f : Fault) → faultOf v count fields ≡ f → Sound (answered f s c v fields .stored .settings) (answered f s c v fields .stored .connection)
-      go fault.Nothing e = obey-sound v (takenBy v (idOf (getD fields 0 0))) (idOf (getD fields 0 0)) fields l (accepted v count fields e)
+      go : (f : Fault) → faultOf v (row (getD fields 0 0)) count fields ≡ f → Sound (answered f s c v (row (getD fields 0 0)) fields .stored .settings) (answered f s c v (row (getD fields 0 0)) fields .stored .connection)
+      go fault.Nothing e =
+          let a = accepted v (row (getD fields 0 0)) count fields e in
+          obey-sound v _ (getD fields 0 0) fields l (defined v (getD fields 0 0) (a .n) (a .takes)) a
       go fault.Type e = h
       go fault.Id e = h
       go fault.Parameters e = h

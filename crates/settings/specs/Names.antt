@@ -3,14 +3,12 @@ pub use Rattle.command.specs.declared.Verb.{Verb}
 pub use Rattle.command.specs.declared.Verb.the-variants.{Write, Read, Other}
 pub use Rattle.settings.specs.declared.Settings.{Settings}
 pub use Rattle.settings.specs.declared.Connection.{Connection}
-pub use Rattle.settings.specs.declared.Connection.the-variants.{Mode1, Mode4, Mode10, Mode11}
-pub use Rattle.settings.specs.declared.Id.{Id}
-pub use Rattle.settings.specs.declared.Id.the-variants.{Version, Ascii, Baudot, Spacing, Marking, Endings, Limit, OnSpace, OnReturn, Filter, Reports, Ending, Factory, Undefined}
+pub use Rattle.settings.specs.declared.Home.{Home}
+pub use Rattle.settings.specs.declared.Home.the-variants.{Version, Linked, Unlinked, Value, String, Factory, Nowhere}
+pub use Rattle.settings.specs.declared.Row.{Row}
 pub use Rattle.settings.specs.declared.Takes.{Takes}
 pub use Rattle.settings.specs.declared.Takes.the-variants.{Count}
 pub use Rattle.settings.specs.declared.Takes.the-variants as takes
-pub use Rattle.settings.specs.declared.Range.{Range}
-pub use Rattle.settings.specs.declared.Range.the-variants.{Free, Between, Link, Codes}
 pub use Rattle.settings.specs.declared.Fault.{Fault}
 pub use Rattle.settings.specs.declared.Fault.the-variants as fault
 pub use Rattle.settings.specs.declared.Stored.{Stored}

@@ -1,32 +1,48 @@
 -- The settings by name.
-use Prim.Native.Nat.{ℕ}
-use mathlib.Core.Bool.{Bool}
-use mathlib.Core.List.{List}
+use Prim.Native.Nat.{ℕ, suc}
+use mathlib.Core.Bool.{Bool, cond}
+use mathlib.Core.List.{List, [], _∷_}
+use lib.Dec.{eqb}
+use lib.ListN.{getD}
 use Rattle.settings.specs.Names.{Settings}
+use Rattle.settings.specs.Table.{Option, options}
+
+-- which option has this id
+abbrev pub placeIn : List Option → ℕ → ℕ
+placeIn [] n = 0
+placeIn (x ∷ xs) n = cond (eqb n (x .number)) 0 (suc (placeIn xs n))
+
+-- the value of an option
+abbrev pub valueOf : Settings → ℕ → ℕ
+valueOf o n = getD (o .values) (placeIn options n) 0
+
+-- 1 is on
+abbrev pub isOn : ℕ → Bool
+isOn n = eqb n 1
 
 -- option 49: line endings
 unfoldable pub endings : Settings → Bool
-endings o = o .endings
+endings o = isOn (valueOf o 49)
 
 -- option 50: their limit
 unfoldable pub limit : Settings → ℕ
-limit o = o .limit
+limit o = valueOf o 50
 
 -- option 70: unshift on space
 unfoldable pub onspace : Settings → Bool
-onspace o = o .onspace
+onspace o = isOn (valueOf o 70)
 
 -- option 71: unshift on return
 unfoldable pub onreturn : Settings → Bool
-onreturn o = o .onreturn
+onreturn o = isOn (valueOf o 71)
 
 -- option 72: the filter of shifts
 unfoldable pub filter : Settings → Bool
-filter o = o .filter
+filter o = isOn (valueOf o 72)
 
 -- option 74: SI/SO reports
 unfoldable pub reports : Settings → Bool
-reports o = o .reports
+reports o = isOn (valueOf o 74)
 
 -- string 90: the line ending
 unfoldable pub endingCodes : Settings → List ℕ

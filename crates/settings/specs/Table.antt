@@ -1,10 +1,10 @@
 -- The table of ids: parameters, ranges and factory values.
-use Prim.Native.Nat.{ℕ}
+use Prim.Native.Nat.{ℕ, zero, suc}
 use mathlib.Core.Bool.{Bool, true, false, cond, _&&_, _||_}
 use mathlib.Core.List.{List, [], _∷_}
 use lib.Dec.{eqb, leb}
-use lib.ListN.{getD, take}
-use Rattle.settings.specs.Names.{Verb, Write, Read, Other, Settings, Connection, Mode1, Mode4, Mode10, Mode11, Id, Version, Ascii, Baudot, Spacing, Marking, Endings, Limit, OnSpace, OnReturn, Filter, Reports, Ending, Factory, Undefined, Takes, Count, Range, Free, Between, Link, Codes}
+use lib.ListN.{length, getD, take}
+use Rattle.settings.specs.Names.{Verb, Write, Read, Other, Settings, Connection, Home, Version, Linked, Unlinked, Value, String, Factory, Nowhere, Row, Takes, Count}
 use Rattle.settings.specs.Names.takes
 
 -- Ranges of the parameters.
@@ -45,89 +45,133 @@ opens (c ∷ cs) = eqb c 8 || (early c && opens cs)
 unfoldable pub soundString : List ℕ → Bool
 soundString cs = allCodes cs && (padded cs && opens cs)
 
--- the parameters are in their range; a port counts from 1
-abbrev pub inRange : Range → List ℕ → Bool
-inRange Free ps = true
-inRange (Between low high) ps = between low high (getD ps 0 0)
-inRange (Link last) ps = between 1 last (getD ps 0 0) && isSpeed (getD ps 1 0)
-inRange Codes ps = soundString (take 8 ps)
+-- the parameters of an id are in its range; a port counts from 1
+abbrev pub inRange : Home → List ℕ → Bool
+inRange Version ps = true
+inRange (Linked last) ps = between 1 last (getD ps 0 0) && isSpeed (getD ps 1 0)
+inRange Unlinked ps = true
+inRange (Value place low high) ps = between low high (getD ps 0 0)
+inRange String ps = soundString (take 8 ps)
+inRange Factory ps = true
+inRange Nowhere ps = true
 
--- The table: the id's number, how many parameters a write and a read have if there are such, their range, and the factory values.
+-- The table.
 
-pub record Row : Type 0 where
+-- an option, which has one value: its id, its least and its greatest value, and its factory value
+pub record Option : Type 0 where
   pub number : ℕ
-  pub writes : Takes
-  pub reads : Takes
-  pub range : Range
-  pub factory : List ℕ
+  pub low : ℕ
+  pub high : ℕ
+  pub factory : ℕ
 
-abbrev is : ℕ → Takes → Takes → Range → List ℕ → Row
-is n w r range f = record { number = n; writes = w; reads = r; range = range; factory = f }
+abbrev option : ℕ → ℕ → ℕ → ℕ → Option
+option n low high f = record { number = n; low = low; high = high; factory = f }
 
-abbrev pub row : Id → Row
-row Version = is 0 takes.Nothing (Count 0) Free []
-row Ascii = is 1 (Count 2) (Count 0) (Link 4) []
-row Baudot = is 4 (Count 2) takes.Nothing (Link 3) []
-row Spacing = is 10 (Count 0) takes.Nothing Free []
-row Marking = is 11 (Count 0) takes.Nothing Free []
-row Endings = is 49 (Count 1) (Count 0) (Between 0 1) (0 ∷ [])
-row Limit = is 50 (Count 1) (Count 0) (Between 10 80) (72 ∷ [])
-row OnSpace = is 70 (Count 1) (Count 0) (Between 0 1) (0 ∷ [])
-row OnReturn = is 71 (Count 1) (Count 0) (Between 0 1) (0 ∷ [])
-row Filter = is 72 (Count 1) (Count 0) (Between 0 1) (0 ∷ [])
-row Reports = is 74 (Count 1) (Count 0) (Between 0 1) (0 ∷ [])
-row Ending = is 90 (Count 8) (Count 0) Codes (8 ∷ 8 ∷ 2 ∷ 31 ∷ 31 ∷ 0 ∷ 0 ∷ 0 ∷ [])
-row Factory = is 250 (Count 0) takes.Nothing Free []
-row Undefined = is 256 takes.Nothing takes.Nothing Free []
+-- the options, in the order in which the settings hold their values
+abbrev pub options : List Option
+options =
+    option 49 0 1 0
+    ∷ option 50 10 80 72
+    ∷ option 70 0 1 0
+    ∷ option 71 0 1 0
+    ∷ option 72 0 1 0
+    ∷ option 74 0 1 0
+    ∷ []
 
--- every id that the table has
-abbrev pub ids : List Id
-ids = Version ∷ Ascii ∷ Baudot ∷ Spacing ∷ Marking ∷ Endings ∷ Limit ∷ OnSpace ∷ OnReturn ∷ Filter ∷ Reports ∷ Ending ∷ Factory ∷ []
+abbrev is : ℕ → Home → Bool → Bool → Row
+is n home written read = record { number = n; home = home; written = written; read = read }
 
--- the first id with that number
-abbrev pub seek : List Id → ℕ → Id
-seek [] n = Undefined
-seek (i ∷ is) n = cond (eqb n (row i .number)) i (seek is n)
+-- the other ids: where their values are, and whether they can be written and read
+abbrev pub others : List Row
+others =
+    is 0 Version false true
+    ∷ is 1 (Linked 4) true true
+    ∷ is 4 (Linked 3) true false
+    ∷ is 10 Unlinked true false
+    ∷ is 11 Unlinked true false
+    ∷ is 90 String true true
+    ∷ is 250 Factory true false
+    ∷ []
 
--- the id of a number
-unfoldable pub idOf : ℕ → Id
-idOf n = seek ids n
+-- an option can be written and read, and its value has the next place
+abbrev pub placed : ℕ → List Option → List Row
+placed place [] = others
+placed place (x ∷ xs) = is (x .number) (Value place (x .low) (x .high)) true true ∷ placed (suc place) xs
 
--- how many parameters a command of this type has
-abbrev pub takenBy : Verb → Id → Takes
-takenBy Write id = row id .writes
-takenBy Read id = row id .reads
-takenBy Other id = takes.Nothing
+-- an id that the table does not have
+abbrev pub undefined : Row
+undefined = is 0 Nowhere false false
 
--- 1 is on
-abbrev pub isOn : ℕ → Bool
-isOn n = eqb n 1
+-- the first row with that number
+abbrev pub seek : List Row → ℕ → Row
+seek [] n = undefined
+seek (r ∷ rs) n = cond (eqb n (r .number)) r (seek rs n)
 
--- the factory value of a setting with one
-abbrev pub value : Id → ℕ
-value id = getD (row id .factory) 0 0
+-- the row of an id
+unfoldable pub row : ℕ → Row
+row n = seek (placed 0 options) n
 
--- the factory settings
+-- it names the connection
+abbrev pub connects : Home → Bool
+connects Version = false
+connects (Linked last) = true
+connects Unlinked = true
+connects (Value place low high) = false
+connects String = false
+connects Factory = false
+connects Nowhere = false
+
+-- how many values it has
+abbrev pub width : Home → ℕ
+width Version = 4
+width (Linked last) = 2
+width Unlinked = 0
+width (Value place low high) = 1
+width String = 8
+width Factory = 0
+width Nowhere = 0
+
+abbrev pub takesIf : Bool → ℕ → Takes
+takesIf true n = Count n
+takesIf false n = takes.Nothing
+
+-- how many parameters a command of this type has: a write all values, a read none
+abbrev pub takenBy : Verb → Row → Takes
+takenBy Write r = takesIf (r .written) (width (r .home))
+takenBy Read r = takesIf (r .read) 0
+takenBy Other r = takes.Nothing
+
+-- Factory settings.
+
+abbrev pub factoryValues : List Option → List ℕ
+factoryValues [] = []
+factoryValues (x ∷ xs) = x .factory ∷ factoryValues xs
+
 abbrev pub factory : Settings
-factory = record {
-  endings = isOn (value Endings);
-  limit = value Limit;
-  onspace = isOn (value OnSpace);
-  onreturn = isOn (value OnReturn);
-  filter = isOn (value Filter);
-  reports = isOn (value Reports);
-  string = row Ending .factory;
-}
+factory = record { values = factoryValues options; string = 8 ∷ 8 ∷ 2 ∷ 31 ∷ 31 ∷ 0 ∷ 0 ∷ 0 ∷ [] }
 
 -- Sound: every setting and the connection in the table's ranges, string 90 by its rules.
 
--- options are 0 or 1 by their form
-abbrev pub soundSettings : Settings → Bool
-soundSettings s = inRange (row Limit .range) (s .limit ∷ []) && soundString (s .string)
+-- a value for each option, in its range
+abbrev pub allIn : List Option → List ℕ → Bool
+allIn [] [] = true
+allIn [] (v ∷ vs) = false
+allIn (x ∷ xs) [] = false
+allIn (x ∷ xs) (v ∷ vs) = between (x .low) (x .high) v && allIn xs vs
 
--- port and speed, where the mode has them
-abbrev pub soundConnection : Connection → Bool
-soundConnection (Mode1 port speed) = inRange (row Ascii .range) (port ∷ speed ∷ [])
-soundConnection (Mode4 port speed) = inRange (row Baudot .range) (port ∷ speed ∷ [])
-soundConnection Mode10 = true
-soundConnection Mode11 = true
+unfoldable pub soundSettings : Settings → Bool
+soundSettings s = allIn options (s .values) && (eqb (length (s .string)) 8 && soundString (s .string))
+
+-- port and speed are in the mode's range, and 0 where it has none
+abbrev pub soundLink : Home → ℕ → ℕ → Bool
+soundLink Version port speed = false
+soundLink (Linked last) port speed = between 1 last port && isSpeed speed
+soundLink Unlinked port speed = eqb port 0 && eqb speed 0
+soundLink (Value place low high) port speed = false
+soundLink String port speed = false
+soundLink Factory port speed = false
+soundLink Nowhere port speed = false
+
+-- the mode is an id that writes a connection
+unfoldable pub soundConnection : Connection → Bool
+soundConnection c = soundLink (row (c .mode) .home) (c .port) (c .speed)

@@ -1,11 +1,15 @@
 // The numbers of an answer.
 ghost use mathlib.Core.Path.{_≡_};
 ghost use mathlib.Core.List.{[], _∷_};
-ghost use Rattle.settings.specs.Command.{bit, connectionNumbers, reading, outcome};
+ghost use lib.ListN.{getD};
+ghost use Rattle.settings.specs.Command.{answering, told, reading, outcome};
 use crate::Connection;
-use crate::Id;
+use crate::Home;
 use crate::Outcome;
+use crate::Row;
 use crate::Stored;
+use crate::table::connects;
+use crate::table::row;
 
 // An id without values.
 fn none(stored: Stored, id: u8) -> Outcome
@@ -52,79 +56,57 @@ fn eight(stored: Stored, id: u8, s: [u8; 8]) -> Outcome
 }
 
 // The firmware's version.
-fn version(stored: Stored) -> Outcome
-    ensures { λ r. ⌜ r ≡ outcome stored (0 ∷ 4 ∷ 0 ∷ 0 ∷ 1 ∷ 0 ∷ []) ⌝ }
+fn version(stored: Stored, id: u8) -> Outcome
+    ensures { λ r. ⌜ r ≡ outcome stored (id ∷ 4 ∷ 0 ∷ 0 ∷ 1 ∷ 0 ∷ []) ⌝ }
 {
     Outcome {
         stored,
-        numbers: [0, 4, 0, 0, 1, 0, 0, 0, 0, 0],
+        numbers: [id, 4, 0, 0, 1, 0, 0, 0, 0, 0],
         count: 6,
     }
 }
 
-// An option that is on or off.
-fn option(stored: Stored, id: u8, on: bool) -> Outcome
-    ensures { λ r. ⌜ r ≡ outcome stored (id ∷ 1 ∷ bit on ∷ []) ⌝ }
+// The value at a place.
+fn value_at(values: [u8; 6], place: u8) -> u8
+    ensures { λ r. ⌜ r ≡ getD values place 0 ⌝ }
 {
-    if on {
-        one(stored, id, 1)
-    } else {
-        one(stored, id, 0)
-    }
+    let i = place as usize;
+    if i < 6 { values[i] } else { 0 }
 }
 
-// The connection, under its mode's own id.
-fn connection(stored: Stored) -> Outcome
-    ensures { λ r. ⌜ r ≡ outcome stored (connectionNumbers (stored .connection)) ⌝ }
+// The row that answers: the connection answers under its mode's own id.
+fn answering(c: Connection, r: Row) -> Row
+    ensures { λ q. ⌜ q ≡ answering c r ⌝ }
 {
+    let home = r.home;
+    if connects(home) { row(c.mode) } else { r }
+}
+
+// The values of a row.
+fn tell(stored: Stored, r: Row) -> Outcome
+    ensures { λ q. ⌜ q ≡ outcome stored (told (stored .settings) (stored .connection) r) ⌝ }
+{
+    let s = stored.settings;
     let c = stored.connection;
-    match c {
-        Connection::Mode1(port, speed) => two(stored, 1, port, speed),
-        Connection::Mode4(port, speed) => two(stored, 4, port, speed),
-        Connection::Mode10 => none(stored, 10),
-        Connection::Mode11 => none(stored, 11),
-    }
-}
-
-// String 90.
-fn ending(stored: Stored) -> Outcome
-    ensures { λ r. ⌜ r ≡ outcome stored (90 ∷ 8 ∷ stored .settings .string) ⌝ }
-{
-    let settings = stored.settings;
-    let s = settings.string;
-    eight(stored, 90, s)
-}
-
-// An id that the table does not have.
-fn nothing(stored: Stored) -> Outcome
-    ensures { λ r. ⌜ r ≡ outcome stored [] ⌝ }
-{
-    Outcome {
-        stored,
-        numbers: [0; 10],
-        count: 0,
+    let id = r.number;
+    let home = r.home;
+    let values = s.values;
+    let string = s.string;
+    match home {
+        Home::Version => version(stored, id),
+        Home::Linked(_) => two(stored, id, c.port, c.speed),
+        Home::Unlinked => none(stored, id),
+        Home::Value(place, _, _) => one(stored, id, value_at(values, place)),
+        Home::String => eight(stored, id, string),
+        Home::Factory => none(stored, id),
+        Home::Nowhere => none(stored, id),
     }
 }
 
 // What is stored under an id.
-pub fn read_out(stored: Stored, id: Id) -> Outcome
-    ensures { λ r. ⌜ r ≡ outcome stored (reading stored id) ⌝ }
+pub fn read_out(stored: Stored, r: Row) -> Outcome
+    ensures { λ q. ⌜ q ≡ outcome stored (reading stored r) ⌝ }
 {
-    let s = stored.settings;
-    match id {
-        Id::Version => version(stored),
-        Id::Ascii => connection(stored),
-        Id::Baudot => connection(stored),
-        Id::Spacing => connection(stored),
-        Id::Marking => connection(stored),
-        Id::Endings => option(stored, 49, s.endings),
-        Id::Limit => one(stored, 50, s.limit),
-        Id::OnSpace => option(stored, 70, s.onspace),
-        Id::OnReturn => option(stored, 71, s.onreturn),
-        Id::Filter => option(stored, 72, s.filter),
-        Id::Reports => option(stored, 74, s.reports),
-        Id::Ending => ending(stored),
-        Id::Factory => none(stored, 250),
-        Id::Undefined => nothing(stored),
-    }
+    let c = stored.connection;
+    tell(stored, answering(c, r))
 }

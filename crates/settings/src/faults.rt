@@ -4,13 +4,10 @@ ghost use Prim.Native.Nat.{_%_};
 ghost use lib.ListN.{getD, take, drop};
 ghost use Rattle.settings.specs.Command.{sum, checked, fitting, ranged, faultIn, faultOf, numberOf};
 use crate::Fault;
-use crate::Id;
+use crate::Row;
 use crate::Takes;
-use crate::table::id_of;
 use crate::table::in_range;
-use crate::table::range_of;
-use crate::table::reads;
-use crate::table::writes;
+use crate::table::taken_by;
 use command::Verb;
 
 // The field at a place; 0 where there is none.
@@ -69,26 +66,27 @@ pub fn parameters(fields: [u8; 11]) -> [u8; 9]
 }
 
 // Whether the values are in their range.
-fn is_ranged(v: Verb, id: Id, fields: [u8; 11]) -> bool
-    ensures { λ r. ⌜ r ≡ ranged v id fields ⌝ }
+fn is_ranged(v: Verb, r: Row, fields: [u8; 11]) -> bool
+    ensures { λ q. ⌜ q ≡ ranged v r fields ⌝ }
 {
+    let home = r.home;
     match v {
-        Verb::Write => in_range(range_of(id), parameters(fields)),
+        Verb::Write => in_range(home, parameters(fields)),
         Verb::Read => true,
         Verb::Other => true,
     }
 }
 
 // What is wrong with a command whose id takes so many parameters.
-fn fault_in(taken: Takes, v: Verb, id: Id, count: u8, fields: [u8; 11]) -> Fault
-    ensures { λ r. ⌜ r ≡ faultIn taken v id count fields ⌝ }
+fn fault_in(taken: Takes, v: Verb, r: Row, count: u8, fields: [u8; 11]) -> Fault
+    ensures { λ q. ⌜ q ≡ faultIn taken v r count fields ⌝ }
 {
     match taken {
         Takes::Nothing => Fault::Id,
         Takes::Count(n) => {
             let fits = is_fitting(n, count, fields);
             let checks = is_checked(n, count, fields);
-            let ranges = is_ranged(v, id, fields);
+            let ranges = is_ranged(v, r, fields);
             if !fits {
                 return Fault::Parameters;
             }
@@ -104,13 +102,12 @@ fn fault_in(taken: Takes, v: Verb, id: Id, count: u8, fields: [u8; 11]) -> Fault
 }
 
 // What is wrong with a command.
-pub fn fault_of(v: Verb, count: u8, fields: [u8; 11]) -> Fault
-    ensures { λ r. ⌜ r ≡ faultOf v count fields ⌝ }
+pub fn fault_of(v: Verb, r: Row, count: u8, fields: [u8; 11]) -> Fault
+    ensures { λ q. ⌜ q ≡ faultOf v r count fields ⌝ }
 {
-    let id = id_of(fields[0]);
     match v {
-        Verb::Write => fault_in(writes(id), v, id, count, fields),
-        Verb::Read => fault_in(reads(id), v, id, count, fields),
+        Verb::Write => fault_in(taken_by(v, r), v, r, count, fields),
+        Verb::Read => fault_in(taken_by(v, r), v, r, count, fields),
         Verb::Other => Fault::Type,
     }
 }

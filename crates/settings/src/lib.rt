@@ -9,70 +9,57 @@ use command::Verb;
 use faults::fault_of;
 use faults::number_of;
 use faults::parameters;
+use sound::connection_sound;
+use sound::settings_sound;
 use store::keep;
 use store::obey;
-use string::sound_string;
-use table::holds;
-use table::id_of;
+use table::row;
 
 mod answer;
 mod faults;
 mod options;
+mod sound;
 mod store;
 mod string;
 mod table;
 
-// Options 49 (line endings), 50 (their limit), 70 and 71 (unshift on space and on return), 72 (the filter), 74 (SI/SO reports), and
-// string 90 (the line ending).
+// The settings: the value of each option in the table's order, and string 90, the line ending.
 pub struct Settings {
-    pub endings: bool,
-    pub limit: u8,
-    pub onspace: bool,
-    pub onreturn: bool,
-    pub filter: bool,
-    pub reports: bool,
+    pub values: [u8; 6],
     pub string: [u8; 8],
 }
 
-// The connection by its mode, with its port and speed.
-pub enum Connection {
-    Mode1(u8, u8),
-    Mode4(u8, u8),
-    Mode10,
-    Mode11,
+// The connection: its mode, which is the id that writes it, and its port and speed, 0 where the mode has none.
+pub struct Connection {
+    pub mode: u8,
+    pub port: u8,
+    pub speed: u8,
 }
 
-// A command's id.
-pub enum Id {
+// Where the values of an id are, and their range: the version, a connection with a port up to the last and a speed or with neither, an
+// option's place with its least and its greatest value, string 90, all settings, or nowhere.
+pub enum Home {
     Version,
-    Ascii,
-    Baudot,
-    Spacing,
-    Marking,
-    Endings,
-    Limit,
-    OnSpace,
-    OnReturn,
-    Filter,
-    Reports,
-    Ending,
+    Linked(u8),
+    Unlinked,
+    Value(u8, u8, u8),
+    String,
     Factory,
-    Undefined,
+    Nowhere,
+}
+
+// A row of the table: the id's number, where its values are, and whether it can be written and read.
+pub struct Row {
+    pub number: u8,
+    pub home: Home,
+    pub written: bool,
+    pub read: bool,
 }
 
 // How many parameters an id takes, if the command's type has it.
 pub enum Takes {
     Nothing,
     Count(u8),
-}
-
-// What the parameters may be: anything, a number from one to another, a port up to the last with a speed, or codes that obey the
-// rules of string 90.
-pub enum Range {
-    Free,
-    Between(u8, u8),
-    Link(u8),
-    Codes,
 }
 
 // What is wrong with a command: nothing, its type, its id, its number of parameters, its checksum, or a value.
@@ -104,33 +91,8 @@ pub fn factory() -> Settings
     ensures { λ r. ⌜ r ≡ factory ⌝ }
 {
     Settings {
-        endings: false,
-        limit: 72,
-        onspace: false,
-        onreturn: false,
-        filter: false,
-        reports: false,
+        values: [0, 72, 0, 0, 0, 0],
         string: [8, 8, 2, 31, 31, 0, 0, 0],
-    }
-}
-
-// Whether the settings are in the table's ranges.
-fn settings_sound(s: Settings) -> bool
-    ensures { λ r. ⌜ r ≡ soundSettings s ⌝ }
-{
-    let string = s.string;
-    holds(Id::Limit, s.limit, 0) & sound_string(string)
-}
-
-// Whether the connection is in the table's ranges.
-fn connection_sound(c: Connection) -> bool
-    ensures { λ r. ⌜ r ≡ soundConnection c ⌝ }
-{
-    match c {
-        Connection::Mode1(port, speed) => holds(Id::Ascii, port, speed),
-        Connection::Mode4(port, speed) => holds(Id::Baudot, port, speed),
-        Connection::Mode10 => true,
-        Connection::Mode11 => true,
     }
 }
 
@@ -149,11 +111,10 @@ fn refuse(s: Settings, c: Connection, id: u8, f: Fault) -> Outcome
 }
 
 // A command without error.
-fn succeed(s: Settings, c: Connection, v: Verb, fields: [u8; 11]) -> Outcome
-    ensures { λ r. ⌜ r ≡ succeeded s c v fields ⌝ }
+fn succeed(s: Settings, c: Connection, v: Verb, r: Row, fields: [u8; 11]) -> Outcome
+    ensures { λ q. ⌜ q ≡ succeeded s c v r fields ⌝ }
 {
-    let id = id_of(fields[0]);
-    read_out(obey(s, c, v, id, parameters(fields)), id)
+    read_out(obey(s, c, v, r, parameters(fields)), r)
 }
 
 // What a finished command of `count` fields does and answers.
@@ -161,9 +122,10 @@ pub fn run(s: Settings, c: Connection, v: Verb, count: u8, fields: [u8; 11]) -> 
     ensures { λ r. ⌜ r ≡ commanded s c v count fields ⌝ }
 {
     let id = fields[0];
-    let f = fault_of(v, count, fields);
+    let r = row(id);
+    let f = fault_of(v, r, count, fields);
     if let Fault::Nothing = f {
-        return succeed(s, c, v, fields);
+        return succeed(s, c, v, r, fields);
     }
     refuse(s, c, id, f)
 }

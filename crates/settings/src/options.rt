@@ -8,42 +8,48 @@ impl Settings {
     pub fn endings(self) -> bool
         ensures { λ r. ⌜ r ≡ endings self ⌝ }
     {
-        self.endings
+        let values = self.values;
+        values[0] == 1
     }
 
     // Option 50: their limit.
     pub fn limit(self) -> u8
         ensures { λ r. ⌜ r ≡ limit self ⌝ }
     {
-        self.limit
+        let values = self.values;
+        values[1]
     }
 
     // Option 70: unshift on space.
     pub fn onspace(self) -> bool
         ensures { λ r. ⌜ r ≡ onspace self ⌝ }
     {
-        self.onspace
+        let values = self.values;
+        values[2] == 1
     }
 
     // Option 71: unshift on return.
     pub fn onreturn(self) -> bool
         ensures { λ r. ⌜ r ≡ onreturn self ⌝ }
     {
-        self.onreturn
+        let values = self.values;
+        values[3] == 1
     }
 
     // Option 72: the filter of shifts.
     pub fn filter(self) -> bool
         ensures { λ r. ⌜ r ≡ filter self ⌝ }
     {
-        self.filter
+        let values = self.values;
+        values[4] == 1
     }
 
     // Option 74: SI/SO reports.
     pub fn reports(self) -> bool
         ensures { λ r. ⌜ r ≡ reports self ⌝ }
     {
-        self.reports
+        let values = self.values;
+        values[5] == 1
     }
 
     // String 90: the line ending.

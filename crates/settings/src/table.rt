@@ -1,82 +1,108 @@
-// The table of ids in code: their numbers, how many parameters they take, and the ranges of these.
+// The table of ids in code, and the ranges of values.
 ghost use mathlib.Core.Path.{_≡_};
+ghost use mathlib.Core.Bool.{true};
 ghost use mathlib.Core.List.{[], _∷_};
-ghost use lib.ListN.{take, replicate};
-ghost use Rattle.settings.specs.Names.{Link};
-ghost use Rattle.settings.specs.Table.{between, isSpeed, inRange, row, idOf};
-use crate::Id;
-use crate::Range;
+ghost use lib.ListN.{take};
+ghost use Rattle.settings.specs.Names.{Linked, Value};
+ghost use Rattle.settings.specs.Table.{between, isSpeed, inRange, row, connects, width, takesIf, takenBy};
+use crate::Home;
+use crate::Row;
 use crate::Takes;
 use crate::string::sound_string;
+use command::Verb;
 
-// The id of a number.
-pub fn id_of(n: u8) -> Id
-    ensures { λ r. ⌜ r ≡ idOf n ⌝ }
+// A row.
+fn is(number: u8, home: Home, written: bool, read: bool) -> Row
+    ensures { λ r. ⌜ r ≡ record { number = number; home = home; written = written; read = read } ⌝ }
 {
-    match n {
-        0 => Id::Version,
-        1 => Id::Ascii,
-        4 => Id::Baudot,
-        10 => Id::Spacing,
-        11 => Id::Marking,
-        49 => Id::Endings,
-        50 => Id::Limit,
-        70 => Id::OnSpace,
-        71 => Id::OnReturn,
-        72 => Id::Filter,
-        74 => Id::Reports,
-        90 => Id::Ending,
-        250 => Id::Factory,
-        _ => Id::Undefined,
+    Row {
+        number,
+        home,
+        written,
+        read,
     }
 }
 
-// How many parameters a write of an id has, if it can be written.
-pub fn writes(id: Id) -> Takes
-    ensures { λ r. ⌜ r ≡ row id .writes ⌝ }
+// An option, which can be written and read: its id, its place, its least and its greatest value.
+fn option(number: u8, place: u8, low: u8, high: u8) -> Row
+    ensures { λ r. ⌜ r ≡ record { number = number; home = Value place low high; written = true; read = true } ⌝ }
+{
+    is(number, Home::Value(place, low, high), true, true)
+}
+
+// The row of an id.
+pub fn row(id: u8) -> Row
+    ensures { λ r. ⌜ r ≡ row id ⌝ }
 {
     match id {
-        Id::Version => Takes::Nothing,
-        Id::Ascii => Takes::Count(2),
-        Id::Baudot => Takes::Count(2),
-        Id::Spacing => Takes::Count(0),
-        Id::Marking => Takes::Count(0),
-        Id::Endings => Takes::Count(1),
-        Id::Limit => Takes::Count(1),
-        Id::OnSpace => Takes::Count(1),
-        Id::OnReturn => Takes::Count(1),
-        Id::Filter => Takes::Count(1),
-        Id::Reports => Takes::Count(1),
-        Id::Ending => Takes::Count(8),
-        Id::Factory => Takes::Count(0),
-        Id::Undefined => Takes::Nothing,
+        0 => is(0, Home::Version, false, true),
+        1 => is(1, Home::Linked(4), true, true),
+        4 => is(4, Home::Linked(3), true, false),
+        10 => is(10, Home::Unlinked, true, false),
+        11 => is(11, Home::Unlinked, true, false),
+        49 => option(49, 0, 0, 1),
+        50 => option(50, 1, 10, 80),
+        70 => option(70, 2, 0, 1),
+        71 => option(71, 3, 0, 1),
+        72 => option(72, 4, 0, 1),
+        74 => option(74, 5, 0, 1),
+        90 => is(90, Home::String, true, true),
+        250 => is(250, Home::Factory, true, false),
+        _ => is(0, Home::Nowhere, false, false),
     }
 }
 
-// A read has none, if the id can be read.
-pub fn reads(id: Id) -> Takes
-    ensures { λ r. ⌜ r ≡ row id .reads ⌝ }
+// Whether an id names the connection.
+pub fn connects(home: Home) -> bool
+    ensures { λ r. ⌜ r ≡ connects home ⌝ }
 {
-    match id {
-        Id::Version => Takes::Count(0),
-        Id::Ascii => Takes::Count(0),
-        Id::Baudot => Takes::Nothing,
-        Id::Spacing => Takes::Nothing,
-        Id::Marking => Takes::Nothing,
-        Id::Endings => Takes::Count(0),
-        Id::Limit => Takes::Count(0),
-        Id::OnSpace => Takes::Count(0),
-        Id::OnReturn => Takes::Count(0),
-        Id::Filter => Takes::Count(0),
-        Id::Reports => Takes::Count(0),
-        Id::Ending => Takes::Count(0),
-        Id::Factory => Takes::Nothing,
-        Id::Undefined => Takes::Nothing,
+    match home {
+        Home::Version => false,
+        Home::Linked(_) => true,
+        Home::Unlinked => true,
+        Home::Value(_, _, _) => false,
+        Home::String => false,
+        Home::Factory => false,
+        Home::Nowhere => false,
+    }
+}
+
+// How many values an id has.
+pub fn width(home: Home) -> u8
+    ensures { λ r. ⌜ r ≡ width home ⌝ }
+{
+    match home {
+        Home::Version => 4,
+        Home::Linked(_) => 2,
+        Home::Unlinked => 0,
+        Home::Value(_, _, _) => 1,
+        Home::String => 8,
+        Home::Factory => 0,
+        Home::Nowhere => 0,
+    }
+}
+
+// So many, if it can be done at all.
+fn takes_if(can: bool, n: u8) -> Takes
+    ensures { λ r. ⌜ r ≡ takesIf can n ⌝ }
+{
+    if can { Takes::Count(n) } else { Takes::Nothing }
+}
+
+// How many parameters a command of this type has.
+pub fn taken_by(v: Verb, r: Row) -> Takes
+    ensures { λ q. ⌜ q ≡ takenBy v r ⌝ }
+{
+    let home = r.home;
+    match v {
+        Verb::Write => takes_if(r.written, width(home)),
+        Verb::Read => takes_if(r.read, 0),
+        Verb::Other => Takes::Nothing,
     }
 }
 
 // Whether a number lies in a range.
-fn is_between(low: u8, high: u8, n: u8) -> bool
+pub fn is_between(low: u8, high: u8, n: u8) -> bool
     ensures { λ r. ⌜ r ≡ between low high n ⌝ }
 {
     (low <= n) & (n <= high)
@@ -90,8 +116,8 @@ fn is_speed(n: u8) -> bool
 }
 
 // Whether two numbers are a port, from 1 to the last, and a speed.
-fn is_link(last: u8, port: u8, speed: u8) -> bool
-    ensures { λ r. ⌜ r ≡ inRange (Link last) (port ∷ speed ∷ []) ⌝ }
+pub fn is_link(last: u8, port: u8, speed: u8) -> bool
+    ensures { λ r. ⌜ r ≡ inRange (Linked last) (port ∷ speed ∷ []) ⌝ }
 {
     is_between(1, last, port) & is_speed(speed)
 }
@@ -103,45 +129,19 @@ pub fn first_eight(ps: [u8; 9]) -> [u8; 8]
     [ps[0], ps[1], ps[2], ps[3], ps[4], ps[5], ps[6], ps[7]]
 }
 
-// The range of an id's parameters.
-pub fn range_of(id: Id) -> Range
-    ensures { λ r. ⌜ r ≡ row id .range ⌝ }
-{
-    match id {
-        Id::Version => Range::Free,
-        Id::Ascii => Range::Link(4),
-        Id::Baudot => Range::Link(3),
-        Id::Spacing => Range::Free,
-        Id::Marking => Range::Free,
-        Id::Endings => Range::Between(0, 1),
-        Id::Limit => Range::Between(10, 80),
-        Id::OnSpace => Range::Between(0, 1),
-        Id::OnReturn => Range::Between(0, 1),
-        Id::Filter => Range::Between(0, 1),
-        Id::Reports => Range::Between(0, 1),
-        Id::Ending => Range::Codes,
-        Id::Factory => Range::Free,
-        Id::Undefined => Range::Free,
-    }
-}
-
-// Whether parameters are in a range.
-pub fn in_range(range: Range, ps: [u8; 9]) -> bool
-    ensures { λ r. ⌜ r ≡ inRange range ps ⌝ }
+// Whether the parameters of an id are in its range.
+pub fn in_range(home: Home, ps: [u8; 9]) -> bool
+    ensures { λ r. ⌜ r ≡ inRange home ps ⌝ }
 {
     let first = ps[0];
     let second = ps[1];
-    match range {
-        Range::Free => true,
-        Range::Between(low, high) => is_between(low, high, first),
-        Range::Link(last) => is_link(last, first, second),
-        Range::Codes => sound_string(first_eight(ps)),
+    match home {
+        Home::Version => true,
+        Home::Linked(last) => is_link(last, first, second),
+        Home::Unlinked => true,
+        Home::Value(_, low, high) => is_between(low, high, first),
+        Home::String => sound_string(first_eight(ps)),
+        Home::Factory => true,
+        Home::Nowhere => true,
     }
-}
-
-// Whether values are in an id's range, of which there are at most two.
-pub fn holds(id: Id, first: u8, second: u8) -> bool
-    ensures { λ r. ⌜ r ≡ inRange (row id .range) (first ∷ second ∷ replicate 7 0) ⌝ }
-{
-    in_range(range_of(id), [first, second, 0, 0, 0, 0, 0, 0, 0])
 }

@@ -11,6 +11,9 @@ use Rattle.settings.proofs.run.Tie as tie
 array-read-id : tie.Need-array-read-id
 array-read-id c = search needs
 
+row-requires : tie.Need-row-requires
+row-requires c κs = search needs
+
 fault-of-requires : tie.Need-fault-of-requires
 fault-of-requires c κs = search needs
 
@@ -22,17 +25,19 @@ succeed-requires c κs = search needs
 
 returns : tie.Need-returns
 returns c =
-    let a = c .before .before .before .before .args in
+    let a = c .before .before .before .before .before .args in
+    let r = c .before .before .before .before .row .ensures in
     let e = sym (c .before .before .before .fault-of .ensures) ∙ c .before .enum-told .given .1 in
-    c .succeed .ensures ∙ sym (success (a .s) (a .c) (a .v) (a .count) (a .t5) e)
+    rw (c .succeed .ensures, r, success (a .s) (a .c) (a .v) (a .count) (a .t5) (rw r at e))
 
 refuse-requires : tie.Need-refuse-requires
 refuse-requires c κs = search needs
 
 returns-2 : tie.Need-returns-2
 returns-2 c =
-    let a = c .before .before .before .args in
-    let e = c .before .before .fault-of .ensures in
+    let a = c .before .before .before .before .args in
+    let r = c .before .before .before .row .ensures in
+    let e = rw r at (c .before .before .fault-of .ensures) in
     c .refuse .ensures ∙ rw e (sym (refusal (a .s) (a .c) (a .v) (a .count) (a .t5) (λ z. miss (1 ∷ 2 ∷ 3 ∷ 4 ∷ 5 ∷ []) 0 tt (rw (e ∙ z) at (c .before .match .keys2)))))
 
 pub run-spec : {M : Type 1} → statement M
@@ -40,6 +45,7 @@ run-spec =
     tie.close
     (tie.spec
     array-read-id
+    row-requires
     fault-of-requires
     enum-told
     succeed-requires

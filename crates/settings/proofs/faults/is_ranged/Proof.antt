@@ -1,4 +1,4 @@
--- `settings::faults::is_ranged` meets its contract: of a write the parameters are tested by the id's range, of another nothing.
+-- `settings::faults::is_ranged` meets its contract: only a write has values.
 -- Assumes nothing.
 use borrow.Author.Needs.{needs}
 use Rattle.settings.proofs.faults.is_ranged.Statement.{statement}
@@ -6,9 +6,6 @@ use Rattle.settings.proofs.faults.is_ranged.Tie as tie
 
 enum-told : tie.Need-enum-told
 enum-told c = search needs
-
-range-of-requires : tie.Need-range-of-requires
-range-of-requires c κs = search needs
 
 parameters-requires : tie.Need-parameters-requires
 parameters-requires c κs = search needs
@@ -23,7 +20,7 @@ enum-told-3 : tie.Need-enum-told-3
 enum-told-3 c = search needs
 
 returns : tie.Need-returns
-returns c = simp (c .before .before .before .enum-told .given .1, c .in-range .ensures, c .before .before .range-of .ensures, c .before .parameters .ensures)
+returns c = simp (c .before .before .enum-told .given .1, c .in-range .ensures, c .before .parameters .ensures)
 
 returns-2 : tie.Need-returns-2
 returns-2 c = search needs
@@ -36,7 +33,6 @@ is-ranged-spec =
     tie.close
     (tie.spec
     enum-told
-    range-of-requires
     parameters-requires
     in-range-requires
     enum-told-2

@@ -1,4 +1,4 @@
--- `settings::table::in_range` meets its contract: each form of a range has its tests.
+-- `settings::table::in_range` meets its contract: each home has its tests.
 -- Assumes nothing.
 use borrow.Author.Needs.{needs}
 use Rattle.settings.proofs.table.in_range.Statement.{statement}
@@ -13,14 +13,8 @@ array-read-second c = search needs
 enum-told : tie.Need-enum-told
 enum-told c = search needs
 
-enum-known-range : tie.Need-enum-known-range
-enum-known-range c = search needs
-
-is-between-requires : tie.Need-is-between-requires
-is-between-requires c κs = search needs
-
-enum-known-range-2 : tie.Need-enum-known-range-2
-enum-known-range-2 c = search needs
+enum-known-home : tie.Need-enum-known-home
+enum-known-home c = search needs
 
 is-link-requires : tie.Need-is-link-requires
 is-link-requires c κs = search needs
@@ -28,23 +22,47 @@ is-link-requires c κs = search needs
 enum-told-2 : tie.Need-enum-told-2
 enum-told-2 c = search needs
 
+enum-known-home-2 : tie.Need-enum-known-home-2
+enum-known-home-2 c = search needs
+
+is-between-requires : tie.Need-is-between-requires
+is-between-requires c κs = search needs
+
+enum-told-3 : tie.Need-enum-told-3
+enum-told-3 c = search needs
+
 first-eight-requires : tie.Need-first-eight-requires
 first-eight-requires c κs = search needs
 
 sound-string-requires : tie.Need-sound-string-requires
 sound-string-requires c κs = search needs
 
+enum-told-4 : tie.Need-enum-told-4
+enum-told-4 c = search needs
+
+enum-told-5 : tie.Need-enum-told-5
+enum-told-5 c = search needs
+
 returns : tie.Need-returns
 returns c = search needs
 
 returns-2 : tie.Need-returns-2
-returns-2 c = simp (c .before .before .range .given .1, c .is-between .ensures)
+returns-2 c = simp (c .before .before .home .given .1, c .is-link .ensures)
 
 returns-3 : tie.Need-returns-3
-returns-3 c = simp (c .before .before .range2 .given .1, c .is-link .ensures)
+returns-3 c = search needs
 
 returns-4 : tie.Need-returns-4
-returns-4 c = simp (c .before .before .enum-told2 .given .1, c .sound-string .ensures, c .before .first-eight .ensures)
+returns-4 c = simp (c .before .before .home2 .given .1, c .is-between .ensures)
+
+returns-5 : tie.Need-returns-5
+returns-5 c = simp (c .before .before .enum-told3 .given .1, c .sound-string .ensures, c .before .first-eight .ensures)
+
+returns-6 : tie.Need-returns-6
+returns-6 c = search needs
+
+returns-7 : tie.Need-returns-7
+returns-7 c = search needs
 
 pub in-range-spec : {M : Type 1} → statement M
 in-range-spec =
@@ -53,14 +71,20 @@ in-range-spec =
     array-read-first
     array-read-second
     enum-told
-    enum-known-range
-    is-between-requires
-    enum-known-range-2
+    enum-known-home
     is-link-requires
     enum-told-2
+    enum-known-home-2
+    is-between-requires
+    enum-told-3
     first-eight-requires
     sound-string-requires
+    enum-told-4
+    enum-told-5
     returns
     returns-2
     returns-3
-    returns-4)
+    returns-4
+    returns-5
+    returns-6
+    returns-7)

@@ -1,0 +1,71 @@
+-- Values held for options: a value for each, in its range; one that is set in range leaves them so.
+-- Assumes nothing.
+use Prim.Native.Nat.{ℕ, zero, suc, _<_, _≤_}
+use mathlib.Core.Path.{_≡_, refl, ap}
+use mathlib.Core.Bool.{Bool, true, false, _&&_, false≢true}
+use mathlib.Core.List.{List, [], _∷_}
+use native.Mathlib.Omega.{arith}
+use borrow.Author.Tests.{eqb-true, leb-true}
+use lib.Dec.{eqb, leb, lit≤}
+use lib.ListN.{length, getD, set}
+use Rattle.laws.proofs.Both.{both}
+use Rattle.settings.specs.Names.{Settings}
+use Rattle.settings.specs.Table.{between, Option, options, allIn, soundString, soundSettings}
+use Rattle.settings.specs.Options.{limit, endingCodes}
+use Rattle.settings.proofs.Rows.{lowAt, highAt}
+
+-- as many values as options
+pub length-in : (xs : List Option) (vs : List ℕ) → allIn xs vs ≡ true → length vs ≡ length xs
+length-in [] [] h = refl
+length-in [] (v ∷ vs) h = absurd (false≢true h)
+length-in (x ∷ xs) [] h = absurd (false≢true h)
+length-in (x ∷ xs) (v ∷ vs) h = ap suc (length-in xs vs (both (between (x .low) (x .high) v) (allIn xs vs) h .1))
+
+-- each in its range
+pub value-in : (xs : List Option) (vs : List ℕ) (i : ℕ) → allIn xs vs ≡ true → i < length xs → between (lowAt xs i) (highAt xs i) (getD vs i 0) ≡ true
+value-in [] vs i h l = absurd (omega (arith, l))
+value-in (x ∷ xs) [] i h l = absurd (false≢true h)
+value-in (x ∷ xs) (v ∷ vs) zero h l = both (between (x .low) (x .high) v) (allIn xs vs) h .0
+value-in (x ∷ xs) (v ∷ vs) (suc i) h l = value-in xs vs i (both (between (x .low) (x .high) v) (allIn xs vs) h .1) (omega (arith, l))
+
+-- another value in its range
+pub set-in : (xs : List Option) (vs : List ℕ) (i n : ℕ) → allIn xs vs ≡ true → between (lowAt xs i) (highAt xs i) n ≡ true → allIn xs (set vs i n) ≡ true
+set-in [] [] i n h r = refl
+set-in [] (v ∷ vs) i n h r = absurd (false≢true h)
+set-in (x ∷ xs) [] i n h r = absurd (false≢true h)
+set-in (x ∷ xs) (v ∷ vs) zero n h r = rw (r, both (between (x .low) (x .high) v) (allIn xs vs) h .1)
+set-in (x ∷ xs) (v ∷ vs) (suc i) n h r =
+    let b = both (between (x .low) (x .high) v) (allIn xs vs) h in
+    rw (b .0, set-in xs vs i n (b .1) r)
+
+-- it is read back
+pub set-get : (vs : List ℕ) (i n : ℕ) → i < length vs → getD (set vs i n) i 0 ≡ n
+set-get [] i n l = absurd (omega (arith, l))
+set-get (v ∷ vs) zero n l = refl
+set-get (v ∷ vs) (suc i) n l = set-get vs i n (omega (arith, l))
+
+-- Sound settings.
+
+module _ (s : Settings) (h : soundSettings s ≡ true) where
+  tests : (allIn options (s .values) ≡ true) × ((eqb (length (s .string)) 8 && soundString (s .string)) ≡ true)
+  unfolding soundSettings
+  tests = both (allIn options (s .values)) (eqb (length (s .string)) 8 && soundString (s .string)) h
+
+  -- a value for each option, in its range
+  pub values-in : allIn options (s .values) ≡ true
+  values-in = tests .0
+
+  -- the line ending has eight codes
+  pub eight-codes : length (endingCodes s) ≡ 8
+  unfolding endingCodes
+  eight-codes = eqb-true (length (s .string)) 8 (both (eqb (length (s .string)) 8) (soundString (s .string)) (tests .1) .0)
+
+  -- by its rules
+  pub ending-sound : soundString (endingCodes s) ≡ true
+  unfolding endingCodes
+  ending-sound = both (eqb (length (s .string)) 8) (soundString (s .string)) (tests .1) .1
+
+  -- the limit is in its range
+  pub limit-in : between 10 80 (limit s) ≡ true
+  unfolding limit
+  limit-in = value-in options (s .values) 1 values-in (lit≤ tt)

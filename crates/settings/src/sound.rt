@@ -1,0 +1,64 @@
+// Which settings and connections are sound.
+ghost use mathlib.Core.Path.{_≡_};
+ghost use mathlib.Core.List.{_∷_};
+ghost use lib.ListN.{replicate};
+ghost use Rattle.settings.specs.Table.{inRange, row, options, allIn, soundSettings, soundLink, soundConnection};
+use crate::Connection;
+use crate::Home;
+use crate::Settings;
+use crate::string::sound_string;
+use crate::table::in_range;
+use crate::table::is_link;
+use crate::table::row;
+
+// Whether the value of an option is in its range.
+fn option_sound(id: u8, value: u8) -> bool
+    ensures { λ r. ⌜ r ≡ inRange (row id .home) (value ∷ replicate 8 0) ⌝ }
+{
+    let r = row(id);
+    let home = r.home;
+    in_range(home, [value, 0, 0, 0, 0, 0, 0, 0, 0])
+}
+
+// Whether each option's value is in its range.
+fn values_sound(v: [u8; 6]) -> bool
+    ensures { λ r. ⌜ r ≡ allIn options v ⌝ }
+{
+    option_sound(49, v[0])
+        & (option_sound(50, v[1])
+            & (option_sound(70, v[2])
+                & (option_sound(71, v[3]) & (option_sound(72, v[4]) & option_sound(74, v[5])))))
+}
+
+// Whether the settings are in the table's ranges.
+pub fn settings_sound(s: Settings) -> bool
+    ensures { λ r. ⌜ r ≡ soundSettings s ⌝ }
+{
+    let values = s.values;
+    let string = s.string;
+    values_sound(values) & sound_string(string)
+}
+
+// Whether port and speed are in a mode's range.
+fn link_sound(home: Home, port: u8, speed: u8) -> bool
+    ensures { λ r. ⌜ r ≡ soundLink home port speed ⌝ }
+{
+    match home {
+        Home::Version => false,
+        Home::Linked(last) => is_link(last, port, speed),
+        Home::Unlinked => (port == 0) & (speed == 0),
+        Home::Value(_, _, _) => false,
+        Home::String => false,
+        Home::Factory => false,
+        Home::Nowhere => false,
+    }
+}
+
+// Whether the connection is in the table's ranges.
+pub fn connection_sound(c: Connection) -> bool
+    ensures { λ r. ⌜ r ≡ soundConnection c ⌝ }
+{
+    let r = row(c.mode);
+    let home = r.home;
+    link_sound(home, c.port, c.speed)
+}
