@@ -1,11 +1,11 @@
 -- The digits of a number by how many there are.
 -- Assumes nothing.
 use Prim.Native.Nat.{ℕ, _/_, _%_, _≤_, _<_}
-use mathlib.Core.Path.{_≡_}
+use mathlib.Core.Path.{_≡_, refl}
 use mathlib.Core.Bool.{Bool, true, false, cond}
 use mathlib.Core.List.{[], _∷_}
 use native.Mathlib.Omega.{arith}
-use borrow.Author.Tests.{lt-ltb, le-ltb}
+use borrow.Author.Tests.{lt-ltb, le-ltb, ltb-true, ltb-false}
 use lib.Dec.{ltb}
 use lib.ListN.{length}
 use Rattle.message.specs.Message.{digit, digits}
@@ -31,3 +31,11 @@ digits-few n = go (ltb n 10) (ltb n 100)
     go true b = omega arith
     go false true = omega arith
     go false false = omega arith
+
+-- below 100 at most two
+pub digits-two : (n : ℕ) → n < 100 → length (digits n) ≤ 2
+digits-two n h = go (ltb n 10) refl
+  where
+    go : (a : Bool) → ltb n 10 ≡ a → length (digits n) ≤ 2
+    go true e = rw (one-digit n (ltb-true n 10 e)) (omega arith)
+    go false e = rw (two-digits n (ltb-false n 10 e) h) (omega arith)

@@ -1,16 +1,18 @@
 -- What a command answers can be sent: its numbers are those of a message, of at most 36 bytes.
 -- Assumes nothing.
-use Prim.Native.Nat.{ℕ, suc, _+_, _*_, _/_, _%_, _≤_}
-use mathlib.Core.Path.{_≡_, refl, sym, subst, _∙_}
+use Prim.Native.Nat.{ℕ, suc, _*_, _≤_}
+use mathlib.Core.Path.{_≡_, refl, sym, ap, subst, _∙_}
 use mathlib.Core.Bool.{Bool, true, false, cond, _&&_, _||_, false≢true}
 use mathlib.Core.List.{List, [], _∷_}
 use native.Mathlib.Nat.{le-trans}
 use native.Mathlib.Omega.{arith}
-use borrow.Author.Tests.{leb-true, ltb-true, ltb-false, eqb-true}
+use borrow.Author.Tests.{leb-true, ltb-true, eqb-true}
 use lib.Dec.{eqb, leb, ltb, lit≤}
 use lib.ListN.{length, getD, drop, length-append}
-use Rattle.message.specs.Message.{crlf, digit, digits, numbers, framed}
+use Rattle.message.specs.Message.{digits, numbers, framed}
 use Rattle.message.specs.Find.{AllBytes, Counted}
+use Rattle.message.proofs.Digits.{one-digit, digits-two}
+use Rattle.message.proofs.Sizes.{framed-length, framed-few}
 use Rattle.settings.specs.Names.{Outcome, Verb, Settings, Connection, Home, Version, Linked, Unlinked, Value, String, Factory, Nowhere, Row, Fault, Stored}
 use Rattle.settings.specs.Names.fault
 use Rattle.settings.specs.Table.{between, isSpeed, allCodes, early, padded, opens, soundString, soundSettings, options, row, connects, soundLink, soundConnection}
@@ -23,52 +25,17 @@ use Rattle.settings.proofs.Rows.{lowAt, highAt, fitsHome, numberFits, r
 use Rattle.settings.proofs.Held.{values-in, value-in, eight-codes, ending-sound}
 use Rattle.settings.proofs.Written.{answer-outcome, defined, obey-sound}
 
--- How long a message is.
+-- How long a message of codes is.
 
--- a number has at most three digits, below 100 at most two
-three : (n : ℕ) → length (digits n) ≤ 3
-unfolding digits
-three n = go (ltb n 10) (ltb n 100)
-  where
-    go : (a b : Bool) → length (cond a (digit n ∷ []) (cond b (digit (n / 10) ∷ digit (n % 10) ∷ []) (digit (n / 100) ∷ digit (n / 10 % 10) ∷ digit (n % 10) ∷ []))) ≤ 3
-    go true b = lit≤ tt
-    go false true = lit≤ tt
-    go false false = lit≤ tt
-
+-- a code has at most two digits
 code : (n : ℕ) → leb n 31 ≡ true → length (digits n) ≤ 2
-unfolding digits
-code n h = go (ltb n 10) (ltb n 100) refl
-  where
-    go : (a b : Bool) → ltb n 100 ≡ b → length (cond a (digit n ∷ []) (cond b (digit (n / 10) ∷ digit (n % 10) ∷ []) (digit (n / 100) ∷ digit (n / 10 % 10) ∷ digit (n % 10) ∷ []))) ≤ 2
-    go true b e = lit≤ tt
-    go false true e = lit≤ tt
-    go false false e = absurd (omega (arith, ltb-false n 100 e, leb-true n 31 h))
-
-comma : (n : ℕ) (ns : List ℕ) → length (numbers (n ∷ ns)) ≡ suc (length (digits n)) + length (numbers ns)
-comma n ns = rw length-append
-
-any : (ns : List ℕ) → length (numbers ns) ≤ 4 * length ns
-any [] = lit≤ tt
-any (n ∷ ns) = omega (arith, comma n ns, three n, any ns)
+code n h = digits-two n (omega (arith, leb-true n 31 h))
 
 codes : (cs : List ℕ) → allCodes cs ≡ true → length (numbers cs) ≤ 3 * length cs
 codes [] h = lit≤ tt
 codes (c ∷ cs) h =
     let b = both (leb c 31) (allCodes cs) h in
-    omega (arith, comma c cs, code c (b .0), codes cs (b .1))
-
-eight : length (digits 8) ≡ 1
-unfolding digits
-eight = refl
-
-below : (n : ℕ) → leb n 99 ≡ true → length (digits n) ≤ 2
-unfolding digits
-below n h = go (ltb n 10) (ltb n 100) refl
-  where
-    go : (a b : Bool) → ltb n 100 ≡ b → length (cond a (digit n ∷ []) (cond b (digit (n / 10) ∷ digit (n % 10) ∷ []) (digit (n / 100) ∷ digit (n / 10 % 10) ∷ digit (n % 10) ∷ []))) ≤ 2
-    go true b e = lit≤ tt
-    go false true e = lit≤ tt
-    go false false e = absurd (omega (arith, ltb-false n 100 e, leb-true n 99 h))
+    simp length-append (omega (arith, code c (b .0), codes cs (b .1)))
 
 -- a line ending has an 8 in it
 ending : (cs : List ℕ) → allCodes cs ≡ true → opens cs ≡ true → suc (length (numbers cs)) ≤ 3 * length cs
@@ -79,13 +46,8 @@ ending (c ∷ cs) h o = go (eqb c 8) refl (ending cs (b .1)) o
     b = both (leb c 31) (allCodes cs) h
 
     go : (a : Bool) → eqb c 8 ≡ a → (opens cs ≡ true → suc (length (numbers cs)) ≤ 3 * length cs) → (a || (early c && opens cs)) ≡ true → suc (length (numbers (c ∷ cs))) ≤ 3 * length (c ∷ cs)
-    go true e rest o′ =
-        let p : length (digits c) ≡ 1 = rw (eqb-true c 8 e) eight in
-        omega (arith, comma c cs, codes cs (b .1), p)
-    go false e rest o′ = omega (arith, comma c cs, code c (b .0), rest (both (early c) (opens cs) o′ .1))
-
-frame : (ns : List ℕ) → length (framed ns) ≡ 8 + length (numbers ns)
-frame ns = omega (arith, length-append (numbers ns) crlf)
+    go true e rest o′ = simp length-append (omega (arith, codes cs (b .1), ap length (one-digit c (omega (arith, eqb-true c 8 e)))))
+    go false e rest o′ = simp length-append (omega (arith, code c (b .0), rest (both (early c) (opens cs) o′ .1)))
 
 -- Numbers that are bytes.
 
@@ -120,7 +82,7 @@ fault-byte fault.Range = lit≤ tt
 
 -- up to seven numbers are never too long
 few : (ns : List ℕ) → AllBytes ns → Counted ns → length ns ≤ 7 → Sendable ns
-few ns b c l = record { bytes = b; counted = c; few = omega arith; short = omega (arith, frame ns, any ns) }
+few ns b c l = record { bytes = b; counted = c; few = omega arith; short = omega (arith, framed-few ns) }
 
 link : (id last port speed′ : ℕ) → id ≤ 255 → last ≤ 255 → (between 1 last port && isSpeed speed′) ≡ true → Sendable (id ∷ 2 ∷ port ∷ speed′ ∷ [])
 link id last port speed′ i l h =
@@ -136,8 +98,8 @@ string id cs i h l =
     let b = both (allCodes cs) (padded cs && opens cs) h in
     let o = both (padded cs) (opens cs) (b .1) in
     let k = leb-true id 99 i in
-    let e : length (digits (length cs)) ≡ 1 = rw l eight in
-    record { bytes = (le-trans k (lit≤ tt), (omega arith, code-bytes cs (b .0))); counted = refl; few = omega arith; short = omega (arith, frame (id ∷ length cs ∷ cs), comma id (length cs ∷ cs), comma (length cs) cs, below id i, ending cs (b .0) (o .1)) }
+    let e : length (digits (length cs)) ≡ 1 = rw (l, one-digit 8 (lit≤ tt)) in
+    record { bytes = (le-trans k (lit≤ tt), (omega arith, code-bytes cs (b .0))); counted = refl; few = omega arith; short = simp (framed-length, length-append, e) (omega (arith, digits-two id (omega (arith, k)), ending cs (b .0) (o .1))) }
 
 option-byte : (s : Settings) (i low high : ℕ) (w r : Bool) → soundSettings s ≡ true → fitsHome (Value i low high) w r ≡ true → getD (s .values) i 0 ≤ 255
 option-byte s i low high w r h f =
@@ -202,5 +164,5 @@ module _ (s : Settings) (c : Connection) (h : Sound s c) (v : Verb) (count : ℕ
   -- whatever stands in its first field, the answer is short
   pub answers-short : Short (commanded s c v count fields)
   answers-short =
-      answers-by Short (λ f. record { few = lit≤ tt; short = omega (arith, frame (refusing f), any (refusing f)) })
+      answers-by Short (λ f. record { few = lit≤ tt; short = omega (arith, framed-few (refusing f)) })
       (λ t ns sent. record { few = sent .few; short = subst (λ (l : List ℕ). length (framed l) ≤ 36) (sym (answer-outcome t ns)) (sent .short) })
