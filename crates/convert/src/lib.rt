@@ -1,7 +1,6 @@
 // Host text to line codes, by one table of 128 entries.
 ghost use mathlib.Core.Path.{_≡_};
-ghost use Prim.Native.Nat.{_<_};
-ghost use lib.ListN.{getD};
+ghost use Rattle.code.specs.Convert.{conversion};
 ghost use Rattle.convert.specs.Entry.{Converts, Tabled, unpacked};
 use code::Case;
 use code::Conversion;
@@ -163,9 +162,10 @@ pub fn table() -> [u8; 128]
     TABLE
 }
 
-// What a host byte is on the line, by a table lent.
+// What a host byte is on the line, by the table lent.
 pub fn look_up(table: &[u8], b: u8) -> Conversion
-    ensures { λ r. ⌜ r ≡ unpacked (getD (now (table .entry)) b 0) ⌝ }
+    requires { ⌜ Tabled (now table) ⌝ }
+    ensures { λ r. ⌜ r ≡ conversion b ⌝ }
 {
     let i = b as usize;
     if i < table.len() {

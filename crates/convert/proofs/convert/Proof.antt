@@ -2,7 +2,7 @@
 -- code.
 -- Assumes nothing.
 use Prim.Native.Nat.{ℕ, _<_}
-use mathlib.Core.Path.{_≡_, _∙_}
+use mathlib.Core.Path.{_≡_}
 use borrow.Author.Needs.{needs}
 use Rattle.code.specs.declared.Conversion.{Conversion}
 use Rattle.code.specs.Convert.{conversion}
@@ -27,7 +27,7 @@ returns : tie.Need-returns
 returns c =
     let b = c .before .before .before .args .b in
     let l : b < 256 = search needs in
-    converts b _ l (c .look-up .ensures ∙ c .before .before .table .ensures .entry b l)
+    converts b _ l (c .look-up .ensures)
 
 pub convert-spec : {M : Type 1} → statement M
 convert-spec = tie.close (tie.spec table-requires slice-aggregate-look-up look-up-requires returns)

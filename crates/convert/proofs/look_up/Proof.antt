@@ -1,6 +1,7 @@
--- `convert::look_up` meets its contract: past the table `getD` gives 0, which stands for nothing.
+-- `convert::look_up` meets its contract: each entry of the table stands for its byte's conversion, and past the table `getD` gives 0,
+-- which stands for nothing.
 -- Assumes nothing.
-use mathlib.Core.Path.{_≡_, sym, ap}
+use mathlib.Core.Path.{sym, ap, _∙_}
 use lib.ListN.{List·getD-eq-default}
 use denote.Ref.{now}
 use borrow.Author.Needs.{needs}
@@ -15,12 +16,14 @@ unpack-requires : tie.Need-unpack-requires
 unpack-requires c κs = search needs
 
 returns : tie.Need-returns
-returns c = search needs
+returns c =
+    let b = c .before .before .before .before in
+    c .unpack .ensures ∙ b .pre .entry (b .args .b) (search needs)
 
 returns-2 : tie.Need-returns-2
 returns-2 c =
-    let a = c .before .before .args in
-    sym (ap unpacked (List·getD-eq-default (now (a .table)) 0 {n = a .b} (c .if1 .left)))
+    let b = c .before .before in
+    sym (ap unpacked (List·getD-eq-default (now (b .args .table)) 0 {n = b .args .b} (c .if1 .left))) ∙ b .pre .entry (b .args .b) (search needs)
 
 pub look-up-spec : {M : Type 1} → statement M
 look-up-spec = tie.close (tie.spec shared-slice-read-unpack unpack-requires returns returns-2)

@@ -1,6 +1,5 @@
--- `sender::runs::convert_as` meets its contract: the table lent has what the conversion gives.
+-- `sender::runs::convert_as` meets its contract: text is looked up in the table lent.
 -- Assumes nothing.
-use mathlib.Core.Path.{_∙_}
 use borrow.Author.Needs.{needs}
 use Rattle.sender.proofs.runs.convert_as.Statement.{statement}
 use Rattle.sender.proofs.runs.convert_as.Tie as tie
@@ -15,9 +14,7 @@ enum-known-asks : tie.Need-enum-known-asks
 enum-known-asks c = search needs
 
 returns : tie.Need-returns
-returns c =
-    let b = c .before .before .before .before in
-    rw (c .before .enum-told .given .1) (c .look-up .ensures ∙ b .pre .entry (b .args .b) (search needs))
+returns c = rw (c .before .enum-told .given .1) (c .look-up .ensures)
 
 returns-2 : tie.Need-returns-2
 returns-2 c = simp (c .before .asks .given .1)
