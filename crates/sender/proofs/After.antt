@@ -6,6 +6,7 @@ use mathlib.Core.Bool.{Bool, true, false, cond}
 use mathlib.Core.List.{List, [], _∷_, _++_}
 use Rattle.code.specs.Kinds.{kindOf, shifts, strikes}
 use Rattle.code.proofs.Laws.{kind-shift}
+use Rattle.settings.specs.Options.{onspace, onreturn}
 use Rattle.sender.specs.Record.{noteUnshift, next, noteChar, notes}
 use Rattle.sender.specs.Code.{shiftTo, unshift, sendKind, sendAs}
 use Rattle.sender.specs.After.{afterUnshift, after}
@@ -38,7 +39,7 @@ record-after o r want c = go (kindOf c) refl
   where
     go : (k : Kind) → kindOf c ≡ k → notes o r (sendKind o (r .case) want k c) ≡ after o r want k
     go Still e = rw e
-    go Space e = rw (e, notes) (unshift-after o (o .onspace) (r .case) (next (r .column)))
-    go Return e = rw (e, notes) (unshift-after o (o .onreturn) (r .case) (At 0))
+    go Space e = rw (e, notes) (unshift-after o (onspace o) (r .case) (next (r .column)))
+    go Return e = rw (e, notes) (unshift-after o (onreturn o) (r .case) (At 0))
     go (Shift to) e = rw e
     go (Char bell) e = rw (shift-after o (r .case) want (r .column) (c ∷ []), e, char-after bell want (r .column))

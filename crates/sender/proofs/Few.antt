@@ -9,6 +9,7 @@ use native.Mathlib.Omega.{arith}
 use lib.Dec.{eqb}
 use lib.ListN.{length, length-append}
 use Rattle.code.specs.Kinds.{kindOf, shifts, moves}
+use Rattle.settings.specs.Options.{onspace, onreturn, filter, endingCodes}
 use Rattle.sender.specs.Names.{Case, Letters, Figures, Kind, Still, Space, Return, Shift, Char, Conversion, Nothing, Free, Cased, Settings, Known, Is, Record, Wanted, Sender}
 use Rattle.sender.specs.Names.known
 use Rattle.sender.specs.Record.{notes}
@@ -29,8 +30,8 @@ unshift-length false n = omega arith
 
 pub kind-length : (o : Settings) (n : Known) (want : Case) (c : ℕ) (k : Kind) → length (sendKind o n want k c) ≤ 2
 kind-length o n want c Still = omega arith
-kind-length o n want c Space = omega (arith, unshift-length (o .onspace) n)
-kind-length o n want c Return = omega (arith, unshift-length (o .onreturn) n)
+kind-length o n want c Space = omega (arith, unshift-length (onspace o) n)
+kind-length o n want c Return = omega (arith, unshift-length (onreturn o) n)
 kind-length o n want c (Shift to) = omega arith
 kind-length o n want c (Char bell) = rw (length-append (shifts (shiftTo n want)) (c ∷ [])) (omega (arith, shift-length n want))
 
@@ -51,9 +52,9 @@ until-length (c ∷ cs) = go (eqb c 0) (until-length cs)
     go true h = omega arith
     go false h = omega arith
 
-module _ (o : Settings) (eight : length (o .string) ≡ 8) where
+module _ (o : Settings) (eight : length (endingCodes o) ≡ 8) where
   ending-most : (r : Record) (b : Bool) → length (ending o r b) ≤ 16
-  ending-most r true = omega (arith, ending-length o r (untilZero (o .string)), until-length (o .string), eight)
+  ending-most r true = omega (arith, ending-length o r (untilZero (endingCodes o)), until-length (endingCodes o), eight)
   ending-most r false = omega arith
 
   character-most : (r : Record) (w : Wanted) → length (character o r w) ≤ 18
@@ -64,7 +65,7 @@ module _ (o : Settings) (eight : length (o .string) ≡ 8) where
       (omega (arith, ending-most r (moves (w .case) (kindOf (w .code)) && due o (r .column)), code-length o n (w .case) (w .code)))
 
   item-most : (s : Sender) (w : Wanted) → length (item o s w) ≤ 18
-  item-most s w = go (repeats (lastOf (kindOf (w .code))) (s .last) && o .filter)
+  item-most s w = go (repeats (lastOf (kindOf (w .code))) (s .last) && filter o)
     where
       go : (b : Bool) → length (cond b [] (character o (s .held) w)) ≤ 18
       go true = omega arith

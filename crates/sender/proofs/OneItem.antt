@@ -10,6 +10,7 @@ use lib.ListN.{length, length-append}
 use Rattle.laws.specs.Written.{Filled}
 use Rattle.laws.proofs.Filled.{filled-none, filled-on}
 use Rattle.code.specs.Kinds.{kindOf, moves}
+use Rattle.settings.specs.Options.{filter}
 use Rattle.sender.specs.Names.{Kind, Settings, Record, Last, Wanted, Sender, Noted, Item}
 use Rattle.sender.specs.Record.{notes}
 use Rattle.sender.specs.Code.{sendKind, sendAs}
@@ -64,8 +65,8 @@ module _ (o : Settings) (r : Record) (w : Wanted) (k : Kind) (q : k ≡ kindOf (
 
 module _ (o : Settings) (s : Sender) (w : Wanted) (k : Kind) (last : Last) (p : k ≡ kindOf (w .code)) (q : last ≡ lastOf k) where
   -- dropped
-  module _ (e : (repeats last (s .last) && o .filter) ≡ true) where
-    dropped : (repeats (lastOf (kindOf (w .code))) (s .last) && o .filter) ≡ true
+  module _ (e : (repeats last (s .last) && filter o) ≡ true) where
+    dropped : (repeats (lastOf (kindOf (w .code))) (s .last) && filter o) ≡ true
     dropped = rw (q, p) at e
 
     pub drop-counted : (0 ≤ 18) × (record { sender = record { held = s .held; last = last }; count = 0 } ≡ counted o s (w ∷ []))
@@ -75,8 +76,8 @@ module _ (o : Settings) (s : Sender) (w : Wanted) (k : Kind) (last : Last) (p : 
     item-dropped old = rw (q, p) (record { sender = rw dropped; places = rw dropped (filled-none old) })
 
   -- sent
-  module _ (e : (repeats last (s .last) && o .filter) ≡ false) where
-    kept : (repeats (lastOf (kindOf (w .code))) (s .last) && o .filter) ≡ false
+  module _ (e : (repeats last (s .last) && filter o) ≡ false) where
+    kept : (repeats (lastOf (kindOf (w .code))) (s .last) && filter o) ≡ false
     kept = rw (q, p) at e
 
     pub item-counted : (x : Noted) → x ≡ noted o (s .held) (character o (s .held) w) → record { sender = record { held = x .held; last = last }; count = x .count } ≡ counted o s (w ∷ [])

@@ -1,6 +1,7 @@
 -- The record after a code in its wanted case, in the paper's own words.
 use mathlib.Core.Bool.{Bool, true, false, cond}
 use Rattle.code.specs.Kinds.{strikes}
+use Rattle.settings.specs.Options.{onspace, onreturn}
 use Rattle.sender.specs.Names.{Case, Letters, Kind, Still, Space, Return, Shift, Char, Settings, Known, Is, Column, At, Record}
 use Rattle.sender.specs.Record.{next}
 
@@ -11,8 +12,8 @@ afterUnshift false n = n
 
 abbrev pub afterCase : Settings → Known → Case → Kind → Known
 afterCase o n want Still = n
-afterCase o n want Space = afterUnshift (o .onspace) n
-afterCase o n want Return = afterUnshift (o .onreturn) n
+afterCase o n want Space = afterUnshift (onspace o) n
+afterCase o n want Return = afterUnshift (onreturn o) n
 afterCase o n want (Shift to) = Is to
 afterCase o n want (Char bell) = Is want
 

@@ -3,6 +3,7 @@ use Prim.Native.Nat.{ℕ}
 use mathlib.Core.Bool.{Bool, true, false, cond}
 use mathlib.Core.List.{List, [], _∷_, _++_}
 use Rattle.code.specs.Kinds.{kindOf, shifts, dependent}
+use Rattle.settings.specs.Options.{onspace, onreturn}
 use Rattle.sender.specs.Names.{Case, Letters, Figures, Kind, Still, Space, Return, Shift, Char, Settings, Known, Is}
 use Rattle.sender.specs.Names.known
 
@@ -29,8 +30,8 @@ unshift false n = []
 
 abbrev pub follow : Settings → Known → Kind → List Case
 follow o n Still = []
-follow o n Space = unshift (o .onspace) n
-follow o n Return = unshift (o .onreturn) n
+follow o n Space = unshift (onspace o) n
+follow o n Return = unshift (onreturn o) n
 follow o n (Shift to) = []
 follow o n (Char bell) = []
 

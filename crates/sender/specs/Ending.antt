@@ -4,6 +4,7 @@ use mathlib.Core.Bool.{Bool, true, false, cond, _&&_}
 use mathlib.Core.List.{List, [], _∷_, _++_}
 use lib.Dec.{eqb, leb}
 use Rattle.code.specs.Kinds.{kindOf, moves}
+use Rattle.settings.specs.Options.{endings, limit, endingCodes}
 use Rattle.sender.specs.Names.{Case, Letters, Settings, Known, Is, Column, At, Record, Wanted}
 use Rattle.sender.specs.Names.known
 use Rattle.sender.specs.Names.column
@@ -30,10 +31,10 @@ untilZero (c ∷ cs) = cond (eqb c 0) [] (c ∷ untilZero cs)
 -- the column is known and not below the limit
 abbrev pub due : Settings → Column → Bool
 due o column.Unknown = false
-due o (At n) = o .endings && leb (o .limit) n
+due o (At n) = endings o && leb (limit o) n
 
 abbrev pub ending : Settings → Record → Bool → List ℕ
-ending o r true = endingOf o r (untilZero (o .string))
+ending o r true = endingOf o r (untilZero (endingCodes o))
 ending o r false = []
 
 -- before a space or carriage-moving character and any shift it needs

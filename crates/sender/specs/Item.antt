@@ -3,6 +3,7 @@ use Prim.Native.Nat.{ℕ}
 use mathlib.Core.Bool.{Bool, true, false, cond, _&&_}
 use mathlib.Core.List.{List, [], _∷_, _++_}
 use Rattle.code.specs.Kinds.{kindOf}
+use Rattle.settings.specs.Options.{onspace, onreturn, filter}
 use Rattle.sender.specs.Names.{Case, Letters, Figures, Kind, Still, Space, Return, Shift, Char, Conversion, Nothing, Free, Cased, Settings, Record, Last, Wanted, Sender}
 use Rattle.sender.specs.Names.last
 use Rattle.sender.specs.Record.{unknown, notes}
@@ -31,7 +32,7 @@ repeats (last.Shift Figures) (last.Shift Figures) = true
 
 -- option 72 drops it
 abbrev pub item : Settings → Sender → Wanted → List ℕ
-item o s w = cond (repeats (lastOf (kindOf (w .code))) (s .last) && o .filter) [] (character o (s .held) w)
+item o s w = cond (repeats (lastOf (kindOf (w .code))) (s .last) && filter o) [] (character o (s .held) w)
 
 -- the last item is kept whether 72 is on or off
 abbrev pub afterItem : Settings → Sender → Wanted → Sender
@@ -67,7 +68,7 @@ unshiftedBy false case = case
 -- mode 4's incoming reading case: set by 27 and 31, back to letters after space (70 on) or CR (71 on)
 abbrev pub incoming : Settings → Case → Kind → Case
 incoming o case Still = case
-incoming o case Space = unshiftedBy (o .onspace) case
-incoming o case Return = unshiftedBy (o .onreturn) case
+incoming o case Space = unshiftedBy (onspace o) case
+incoming o case Return = unshiftedBy (onreturn o) case
 incoming o case (Shift to) = to
 incoming o case (Char bell) = case

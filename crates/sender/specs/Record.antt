@@ -3,6 +3,7 @@ use Prim.Native.Nat.{ℕ, _+_, min}
 use mathlib.Core.Bool.{Bool, true, false}
 use mathlib.Core.List.{List, [], _∷_}
 use Rattle.code.specs.Kinds.{kindOf}
+use Rattle.settings.specs.Options.{onspace, onreturn}
 use Rattle.sender.specs.Names.{Case, Letters, Figures, Kind, Still, Space, Return, Shift, Char, Settings, Known, Is, Column, At, Record}
 use Rattle.sender.specs.Names.known
 use Rattle.sender.specs.Names.column
@@ -21,8 +22,8 @@ noteUnshift true (Is Figures) = known.Unknown
 -- a shift sets the case
 abbrev pub noteCase : Settings → Known → Kind → Known
 noteCase o n Still = n
-noteCase o n Space = noteUnshift (o .onspace) n
-noteCase o n Return = noteUnshift (o .onreturn) n
+noteCase o n Space = noteUnshift (onspace o) n
+noteCase o n Return = noteUnshift (onreturn o) n
 noteCase o n (Shift to) = Is to
 noteCase o n (Char bell) = n
 

@@ -67,8 +67,8 @@ fn is_followed(o: Settings, n: Known, k: Kind) -> bool
 {
     match k {
         Kind::Still => false,
-        Kind::Space => is_unshifted(o.onspace, n),
-        Kind::Return => is_unshifted(o.onreturn, n),
+        Kind::Space => is_unshifted(o.onspace(), n),
+        Kind::Return => is_unshifted(o.onreturn(), n),
         Kind::Shift(_) => false,
         Kind::Char(_) => false,
     }

@@ -6,6 +6,7 @@ ghost use mathlib.Core.List.{[], _∷_};
 ghost use Prim.Native.Nat.{_≤_};
 ghost use lib.ListN.{length};
 ghost use Rattle.code.specs.Kinds.{kindOf};
+ghost use Rattle.settings.specs.Options.{filter};
 ghost use Rattle.sender.specs.Ending.{due, ending};
 ghost use Rattle.sender.specs.Item.{character, lastOf, repeats, items};
 ghost use Rattle.sender.specs.Sends.{noted, counted, Notes, Puts};
@@ -31,7 +32,7 @@ fn is_due(o: Settings, col: Column) -> bool
 {
     match col {
         Column::Unknown => false,
-        Column::At(n) => { if o.endings { o.limit <= n } else { false } }
+        Column::At(n) => { if o.endings() { o.limit() <= n } else { false } }
     }
 }
 
@@ -47,7 +48,7 @@ fn count_end(o: Settings, held: Record, moves: bool) -> Noted
     ensures { λ r. ⌜ (r .count ≤ 16) × (r ≡ noted o held (ending o held (moves && due o (held .column)))) ⌝ }
 {
     let col = held.column;
-    let string = o.string;
+    let string = o.ending_codes();
     if is_ended(o, col, moves) {
         return count_ending(o, held, string);
     }
@@ -60,7 +61,7 @@ fn end_line(o: Settings, held: Record, moves: bool, out: &mut [u8]) -> Noted
     ensures { λ r. ⌜ Notes o held (ending o held (moves && due o (held .column))) (now (out .entry)) (now (out .exit)) r ⌝ }
 {
     let col = held.column;
-    let string = o.string;
+    let string = o.ending_codes();
     if is_ended(o, col, moves) {
         return put_ending(o, held, string, out);
     }
@@ -145,9 +146,13 @@ fn repeats(this: Last, was: Last) -> bool
 
 // Whether option 72 drops an item.
 fn is_dropped(o: Settings, this: Last, was: Last) -> bool
-    ensures { λ r. ⌜ r ≡ (repeats this was && o .filter) ⌝ }
+    ensures { λ r. ⌜ r ≡ (repeats this was && filter o) ⌝ }
 {
-    if repeats(this, was) { o.filter } else { false }
+    if repeats(this, was) {
+        o.filter()
+    } else {
+        false
+    }
 }
 
 // One item, counted.

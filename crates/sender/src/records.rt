@@ -54,11 +54,11 @@ pub fn after(o: Settings, r: Record, want: Case, k: Kind) -> Record
     match k {
         Kind::Still => r,
         Kind::Space => Record {
-            case: after_unshift(o.onspace, n),
+            case: after_unshift(o.onspace(), n),
             column: next(col),
         },
         Kind::Return => Record {
-            case: after_unshift(o.onreturn, n),
+            case: after_unshift(o.onreturn(), n),
             column: Column::At(0),
         },
         Kind::Shift(to) => Record {

@@ -32,8 +32,8 @@ pub fn incoming(o: Settings, case: Case, k: Kind) -> Case
 {
     match k {
         Kind::Still => case,
-        Kind::Space => unshifted_by(o.onspace, case),
-        Kind::Return => unshifted_by(o.onreturn, case),
+        Kind::Space => unshifted_by(o.onspace(), case),
+        Kind::Return => unshifted_by(o.onreturn(), case),
         Kind::Shift(to) => to,
         Kind::Char(_) => case,
     }
@@ -126,11 +126,18 @@ pub fn count(o: Settings, s: Sender, asks: Asks, b: u8) -> Item
     count_asked(o, s, convert_as(asks, &table, b))
 }
 
+// The most codes that a byte can be: two for each of string 90's codes, and two for its own.
+fn most(string: [u8; 8]) -> usize
+    ensures { λ r. ⌜ (r ≡ 18) × (length string ≡ 8) ⌝ }
+{
+    2 * string.len() + 2
+}
+
 // Whether a byte's codes have room: no byte is more than eighteen, and with fewer places free they are counted.
 fn has_room(o: Settings, s: Sender, asks: Asks, b: u8, room: usize) -> bool
     ensures { λ r. ⌜ r ≡ leb (length (items o s (wantedOf (converted asks b)))) room ⌝ }
 {
-    if 18 <= room {
+    if most(o.ending_codes()) <= room {
         return true;
     }
     let y = count(o, s, asks, b);

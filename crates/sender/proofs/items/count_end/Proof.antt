@@ -7,6 +7,9 @@ use borrow.Author.Needs.{needs}
 use Rattle.sender.proofs.items.count_end.Statement.{statement}
 use Rattle.sender.proofs.items.count_end.Tie as tie
 
+ending-codes-requires : tie.Need-ending-codes-requires
+ending-codes-requires c κs = search needs
+
 is-ended-requires : tie.Need-is-ended-requires
 is-ended-requires c κs = search needs
 
@@ -16,7 +19,7 @@ count-ending-requires c κs = search needs
 returns : tie.Need-returns
 returns c =
     let i = c .before in
-    rw (rw (i .before .is-ended .ensures) at (i .if1 .taken)) (c .count-ending .ensures)
+    rw (rw (i .before .is-ended .ensures) at (i .if1 .taken), ← i .before .before .ending-codes .ensures) (c .count-ending .ensures)
 
 returns-2 : tie.Need-returns-2
 returns-2 c =
@@ -25,4 +28,4 @@ returns-2 c =
 
 pub count-end-spec : {M : Type 1} → statement M
 count-end-spec =
-    tie.close (tie.spec is-ended-requires count-ending-requires returns returns-2)
+    tie.close (tie.spec ending-codes-requires is-ended-requires count-ending-requires returns returns-2)

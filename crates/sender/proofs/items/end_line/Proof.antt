@@ -8,13 +8,16 @@ use borrow.Author.Needs.{needs}
 use Rattle.sender.proofs.items.end_line.Statement.{statement}
 use Rattle.sender.proofs.items.end_line.Tie as tie
 
+ending-codes-requires : tie.Need-ending-codes-requires
+ending-codes-requires c κs = search needs
+
 is-ended-requires : tie.Need-is-ended-requires
 is-ended-requires c κs = search needs
 
 put-ending-requires : tie.Need-put-ending-requires
 put-ending-requires c κs =
     let i = c .before in
-    rw (rw (i .before .is-ended .ensures) at (i .if1 .taken)) at (i .before .before .before .before .pre)
+    rw (i .before .before .ending-codes .ensures) (rw (rw (i .before .is-ended .ensures) at (i .if1 .taken)) at (i .before .before .before .before .pre))
 
 same-length : tie.Need-same-length
 same-length c = search needs
@@ -23,7 +26,7 @@ returns : tie.Need-returns
 returns c =
     let e = c .before .before in
     let i = e .before .before in
-    rw (rw (i .before .is-ended .ensures) at (i .if1 .taken)) (e .put-ending .ensures)
+    rw (rw (i .before .is-ended .ensures) at (i .if1 .taken), ← i .before .before .ending-codes .ensures) (e .put-ending .ensures)
 
 returns-2 : tie.Need-returns-2
 returns-2 c =
@@ -32,4 +35,4 @@ returns-2 c =
 
 pub end-line-spec : {M : Type 1} → statement M
 end-line-spec =
-    tie.close (tie.spec is-ended-requires put-ending-requires same-length returns returns-2)
+    tie.close (tie.spec ending-codes-requires is-ended-requires put-ending-requires same-length returns returns-2)

@@ -1,10 +1,11 @@
 -- `sender::runs::has_room` meets its contract: no byte is more than eighteen codes, and fewer places are tested by their count.
 -- Assumes nothing.
 use Prim.Native.Nat.{_≤_}
-use mathlib.Core.Path.{_≡_, sym, _∙_}
+use mathlib.Core.Path.{_≡_, sym}
 use native.Mathlib.Omega.{arith}
-use lib.ListN.{length, length-map}
+use lib.ListN.{length}
 use borrow.Author.Tests.{le-leb}
+use Rattle.settings.specs.Options.{endingCodes}
 use Rattle.sender.specs.Item.{items, wantedOf}
 use Rattle.sender.specs.Sends.{converted}
 use Rattle.sender.proofs.Few.{byte-most}
@@ -12,12 +13,18 @@ use borrow.Author.Needs.{needs}
 use Rattle.sender.proofs.runs.has_room.Statement.{statement}
 use Rattle.sender.proofs.runs.has_room.Tie as tie
 
+ending-codes-requires : tie.Need-ending-codes-requires
+ending-codes-requires c κs = search needs
+
+most-requires : tie.Need-most-requires
+most-requires c κs = search needs
+
 returns : tie.Need-returns
 returns c =
-    let b = c .before in
-    let a = b .args in
-    let n : length (a .o .string) ≡ 8 = sym (length-map (a .o .string) (λ v. v)) ∙ b .good .0 .1 .1 .1 .1 .1 .1 .1 .1 .0 .1 .0 .1 in
-    let h : length (items (a .o) (a .s) (wantedOf (converted (a .asks) (a .b)))) ≤ a .room = omega (arith, byte-most (a .o) n (a .s) (converted (a .asks) (a .b)), c .if1 .taken) in
+    let m = c .before in
+    let a = m .before .before .args in
+    let n : length (endingCodes (a .o)) ≡ 8 = rw (m .before .ending-codes .ensures) at (m .most .ensures .1) in
+    let h : length (items (a .o) (a .s) (wantedOf (converted (a .asks) (a .b)))) ≤ a .room = omega (arith, byte-most (a .o) n (a .s) (converted (a .asks) (a .b)), m .most .ensures .0, c .if1 .taken) in
     sym (le-leb _ _ h)
 
 count-requires : tie.Need-count-requires
@@ -27,4 +34,4 @@ returns-2 : tie.Need-returns-2
 returns-2 c = rw (c .before .count .ensures .1)
 
 pub has-room-spec : {M : Type 1} → statement M
-has-room-spec = tie.close (tie.spec returns count-requires returns-2)
+has-room-spec = tie.close (tie.spec ending-codes-requires most-requires returns count-requires returns-2)
