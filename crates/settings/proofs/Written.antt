@@ -2,7 +2,7 @@
 -- Assumes nothing.
 use Prim.Native.Nat.{ℕ, _-_, _<_}
 use mathlib.Core.Path.{_≡_, refl, ap, sym, subst, _∙_}
-use mathlib.Core.Bool.{Bool, true, false, cond, _&&_, not, false≢true}
+use mathlib.Core.Bool.{Bool, true, false, cond, _&&_, not, false≢true, true≢false}
 use mathlib.Core.List.{List, [], _∷_}
 use native.Mathlib.Omega.{arith}
 use borrow.Author.Tests.{leb-true, ltb-true, eqb-true}
@@ -213,3 +213,36 @@ module _ (s : Settings) (c : Connection) (h : Sound s c) where
       go fault.Parameters e = h
       go fault.Checksum e = h
       go fault.Range e = h
+
+-- What does not write a connection keeps it.
+
+abbrev pub Keeps : Connection → Stored → Type 0
+Keeps c t = t .connected ≡ false → t .connection ≡ c
+
+module _ (s : Settings) (c : Connection) where
+  store-keeps : (h : Home) (n : ℕ) (ps : List ℕ) → Keeps c (store s c h n ps)
+  store-keeps Version n ps e = refl
+  store-keeps (Linked last) n ps e = absurd (true≢false e)
+  store-keeps Unlinked n ps e = absurd (true≢false e)
+  store-keeps (Value i low high) n ps e = refl
+  store-keeps String n ps e = refl
+  store-keeps Factory n ps e = refl
+  store-keeps Nowhere n ps e = refl
+
+  obey-keeps : (v : Verb) (r : Row) (ps : List ℕ) → Keeps c (obey s c v r ps)
+  obey-keeps Write r ps e = store-keeps (r .home) (r .number) ps e
+  obey-keeps Read r ps e = refl
+  obey-keeps Other r ps e = refl
+
+  -- no other command touches the connection
+  pub commanded-keeps : (v : Verb) (count : ℕ) (fields : List ℕ) → Keeps c (commanded s c v count fields .stored)
+  unfolding commanded
+  commanded-keeps v count fields = go (faultOf v (row (getD fields 0 0)) count fields)
+    where
+      go : (f : Fault) → Keeps c (answered f s c v (row (getD fields 0 0)) fields .stored)
+      go fault.Nothing e = obey-keeps v (row (getD fields 0 0)) (drop 2 fields) e
+      go fault.Type e = refl
+      go fault.Id e = refl
+      go fault.Parameters e = refl
+      go fault.Checksum e = refl
+      go fault.Range e = refl

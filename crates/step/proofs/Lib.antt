@@ -1,5 +1,5 @@
 pub mod Bytes
-pub mod Modes
+pub mod Routes
 pub mod Sent
 pub mod Answered
 pub mod Stays

@@ -10,28 +10,29 @@ use lib.ListN.{length}
 use Rattle.laws.proofs.Both.{both}
 use Rattle.command.specs.Read.{read, soundStage}
 use Rattle.command.proofs.Leads.{sound-read, eleven-read}
-use Rattle.settings.specs.Table.{soundSettings, soundConnection}
+use Rattle.settings.specs.Table.{row, soundSettings, soundConnection}
 use Rattle.settings.proofs.Written.{stays, factory-sound}
-use Rattle.step.specs.Names.{Connection, Mode1, Mode4, Mode10, Mode11, Out, Nothing, One, Two, Finished, State, Stream, Host, Line, Tu}
-use Rattle.step.specs.State.{formed, sound, freshBox, withReader}
+use Rattle.step.specs.Names.{Route, Dropped, ToPrinter, ToHost, ToTu, Out, Nothing, One, Two, Finished, State, Stream, Host, Line, Tu}
+use Rattle.step.specs.Route.{route}
+use Rattle.step.specs.State.{soundReader, sound, freshBox, withReader}
 use Rattle.step.specs.Step.{hosted, lined, tued, step, Event, run}
 use Rattle.step.specs.Laws.{Parts}
 
 -- the tests of a sound state, one by one
 pub sound-parts : (s : State) → sound s ≡ true → Parts s
 sound-parts s h =
-    let a = both (formed s) (soundSettings (s .settings) && (soundConnection (s .connection) && soundStage (s .reader .stage))) h in
-    let f = both (eqb (length (s .settings .string)) 8) (eqb (length (s .reader .values)) 11) (a .0) in
-    let b = both (soundSettings (s .settings)) (soundConnection (s .connection) && soundStage (s .reader .stage)) (a .1) in
-    let c = both (soundConnection (s .connection)) (soundStage (s .reader .stage)) (b .1) in
-    record { held = record { settings = b .0; connection = c .0; places = eqb-true _ 8 (f .0) }; stage = c .1; eleven = eqb-true _ 11 (f .1) }
+    let a = both (soundSettings (s .settings)) (soundConnection (s .connection) && soundReader (s .reader)) h in
+    let b = both (soundConnection (s .connection)) (soundReader (s .reader)) (a .1) in
+    let c = both (eqb (length (s .reader .values)) 11) (soundStage (s .reader .stage)) (b .1) in
+    record { held = record { settings = a .0; connection = b .0 }; stage = c .1; eleven = eqb-true _ 11 (c .0) }
 
 -- and together
 pub parts-sound : (s : State) → Parts s → sound s ≡ true
-parts-sound s p = rw (eq-eqb _ 8 (p .held .places), eq-eqb _ 11 (p .eleven), p .held .settings, p .held .connection, p .stage)
+parts-sound s p = rw (eq-eqb _ 11 (p .eleven), p .held .settings, p .held .connection, p .stage)
 
 -- a fresh box is sound
 pub fresh-sound : sound freshBox ≡ true
+unfolding soundConnection row
 fresh-sound = rw factory-sound
 
 -- Every byte of every stream.
@@ -42,25 +43,25 @@ hosted-parts s fields (One b) l p = record { held = p .held; stage = p .stage; e
 hosted-parts s fields (Two b) l p = record { held = p .held; stage = p .stage; eleven = p .eleven }
 hosted-parts s fields (Finished v count) l p = record { held = stays (s .settings) (s .connection) (p .held) v count fields l; stage = p .stage; eleven = p .eleven }
 
-lined-parts : (k : Connection) (s : State) (c : ℕ) → Parts s → Parts (lined k s c .state)
-lined-parts (Mode1 port speed) s c p = record { held = p .held; stage = p .stage; eleven = p .eleven }
-lined-parts (Mode4 port speed) s c p = p
-lined-parts Mode10 s c p = p
-lined-parts Mode11 s c p = p
+lined-parts : (k : Route) (s : State) (c : ℕ) → Parts s → Parts (lined k s c .state)
+lined-parts Dropped s c p = p
+lined-parts ToPrinter s c p = p
+lined-parts ToHost s c p = record { held = p .held; stage = p .stage; eleven = p .eleven }
+lined-parts ToTu s c p = p
 
-tued-parts : (k : Connection) (s : State) (c : ℕ) → Parts s → Parts (tued k s c .state)
-tued-parts (Mode1 port speed) s c p = p
-tued-parts (Mode4 port speed) s c p = record { held = p .held; stage = p .stage; eleven = p .eleven }
-tued-parts Mode10 s c p = p
-tued-parts Mode11 s c p = p
+tued-parts : (k : Route) (s : State) (c : ℕ) → Parts s → Parts (tued k s c .state)
+tued-parts Dropped s c p = p
+tued-parts ToPrinter s c p = record { held = p .held; stage = p .stage; eleven = p .eleven }
+tued-parts ToHost s c p = p
+tued-parts ToTu s c p = p
 
 pub step-parts : (t : Stream) (s : State) (b : ℕ) → Parts s → Parts (step t s b .state)
 step-parts Host s b p =
     let r = read (s .reader) b .reader in
     hosted-parts (withReader s r) (s .reader .values) (read (s .reader) b .out) (p .eleven)
     (record { held = p .held; stage = sound-read (s .reader) b (p .stage); eleven = eleven-read (s .reader) b (p .eleven) })
-step-parts Line s b p = lined-parts (s .connection) s b p
-step-parts Tu s b p = tued-parts (s .connection) s b p
+step-parts Line s b p = lined-parts (route (s .connection) Line) s b p
+step-parts Tu s b p = tued-parts (route (s .connection) Tu) s b p
 
 -- a sound state stays sound
 pub sound-step : (t : Stream) (s : State) (b : ℕ) → sound s ≡ true → sound (step t s b .state) ≡ true

@@ -1,11 +1,12 @@
 -- What the laws of the box speak of.
 use Prim.Native.Nat.{ℕ, _≤_}
 use mathlib.Core.Path.{_≡_}
-use mathlib.Core.Bool.{Bool, true, false}
+use mathlib.Core.Bool.{true}
 use lib.ListN.{length}
 use Rattle.settings.specs.Laws.{Sound}
 use Rattle.command.specs.Read.{soundStage}
-use Rattle.step.specs.Names.{Letters, Connection, Mode1, Mode4, Mode10, Mode11, State, Stream, Host, Line, Tu}
+use Rattle.step.specs.Names.{Letters, State, Stream, Host, Line, Tu, ToPrinter, ToHost}
+use Rattle.step.specs.Route.{route}
 use Rattle.step.specs.Step.{Step}
 
 -- the parts of a sound state: settings and connection, a command reader no further than twelve fields, and its eleven places
@@ -14,26 +15,10 @@ pub record Parts (s : State) : Type 0 where
   pub stage : soundStage (s .reader .stage) ≡ true
   pub eleven : length (s .reader .values) ≡ 11
 
--- Reading cases.
-
--- host text and line codes are carried
-abbrev pub isMode1 : Connection → Bool
-isMode1 (Mode1 port speed) = true
-isMode1 (Mode4 port speed) = false
-isMode1 Mode10 = false
-isMode1 Mode11 = false
-
--- TU and printer codes are
-abbrev pub isMode4 : Connection → Bool
-isMode4 (Mode1 port speed) = false
-isMode4 (Mode4 port speed) = true
-isMode4 Mode10 = false
-isMode4 Mode11 = false
-
--- the reading case is letters outside mode 1, and the incoming case outside mode 4
+-- the reading case is letters unless line codes go to the host, and the incoming case unless TU codes go to the printer
 pub record Rested (s : State) : Type 0 where
-  pub reading : isMode1 (s .connection) ≡ false → s .reading ≡ Letters
-  pub incoming : isMode4 (s .connection) ≡ false → s .incoming ≡ Letters
+  pub reading : (route (s .connection) Line ≡ ToHost → ⊥) → s .reading ≡ Letters
+  pub incoming : (route (s .connection) Tu ≡ ToPrinter → ⊥) → s .incoming ≡ Letters
 
 -- The most that one byte makes.
 

@@ -1,5 +1,5 @@
-pub mod Stream
 pub mod Names
+pub mod Route
 pub mod State
 pub mod Step
 pub mod Byte

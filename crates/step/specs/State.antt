@@ -3,22 +3,23 @@ use mathlib.Core.Bool.{Bool, true, false, cond, _&&_}
 use lib.Dec.{eqb}
 use lib.ListN.{length}
 use Rattle.settings.specs.Table.{factory, soundSettings, soundConnection}
+use Rattle.settings.specs.Command.{link}
 use Rattle.command.specs.Read.{idle, soundStage}
 use Rattle.sender.specs.Item.{fresh}
-use Rattle.step.specs.Names.{Case, Letters, Reader, Settings, Connection, Mode11, Stored, Sender, State}
+use Rattle.step.specs.Names.{Case, Letters, Reader, Settings, Connection, Stored, Sender, State}
 
 -- factory settings, mode 11, nothing held
 abbrev pub freshBox : State
-freshBox = record { settings = factory; connection = Mode11; sender = fresh; reading = Letters; incoming = Letters; reader = idle }
+freshBox = record { settings = factory; connection = link 11 0 0; sender = fresh; reading = Letters; incoming = Letters; reader = idle }
 
--- as the types have it: eight codes in string 90, eleven places for fields
-abbrev pub formed : State → Bool
-formed s = eqb (length (s .settings .string)) 8 && eqb (length (s .reader .values)) 11
+-- a command reader with eleven places for fields, and no further than twelve fields
+abbrev pub soundReader : Reader → Bool
+soundReader r = eqb (length (r .values)) 11 && soundStage (r .stage)
 
--- every setting and the connection in the table's ranges, string 90 by its rules, and a command reader no further than twelve
--- fields; a column and a case can be no other than they should
+-- every setting and the connection in the table's ranges, and a sound command reader; a column and a case can be no other than they
+-- should
 abbrev pub sound : State → Bool
-sound s = formed s && (soundSettings (s .settings) && (soundConnection (s .connection) && soundStage (s .reader .stage)))
+sound s = soundSettings (s .settings) && (soundConnection (s .connection) && soundReader (s .reader))
 
 abbrev pub withReader : State → Reader → State
 withReader s r = record { settings = s .settings; connection = s .connection; sender = s .sender; reading = s .reading; incoming = s .incoming; reader = r }

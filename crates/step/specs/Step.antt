@@ -10,7 +10,8 @@ use Rattle.message.specs.Message.{framed}
 use Rattle.command.specs.Read.{read, textOf}
 use Rattle.settings.specs.Command.{commanded}
 use Rattle.sender.specs.Item.{items, afterItems, wanted, wantedOf, incoming}
-use Rattle.step.specs.Names.{Asks, Text, Codes, Case, Letters, Kind, Still, Space, Return, Shift, Char, Reader, Out, Nothing, One, Two, Finished, Connection, Mode1, Mode4, Mode10, Mode11, Outcome, Wanted, State, Stream, Host, Line, Tu}
+use Rattle.step.specs.Names.{Asks, Text, Codes, Case, Letters, Kind, Still, Space, Return, Shift, Char, Reader, Out, Nothing, One, Two, Finished, Route, Dropped, ToPrinter, ToHost, ToTu, Outcome, Wanted, State, Stream, Host, Line, Tu}
+use Rattle.step.specs.Route.{route}
 use Rattle.step.specs.State.{withReader, withSender, withReading, withIncoming, withStored}
 
 pub record Step : Type 0 where
@@ -34,12 +35,12 @@ abbrev pub asked : List ℕ → List Wanted
 asked [] = []
 asked (b ∷ bs) = wantedOf (conversion b) ++ asked bs
 
--- host text goes to the line in mode 1, and is dropped in the others
-abbrev pub text : Connection → List ℕ → List Wanted
-text (Mode1 port speed) bs = asked bs
-text (Mode4 port speed) bs = []
-text Mode10 bs = []
-text Mode11 bs = []
+-- host text on its route: to the printer, or dropped
+abbrev pub text : Route → List ℕ → List Wanted
+text Dropped bs = []
+text ToPrinter bs = asked bs
+text ToHost bs = []
+text ToTu bs = []
 
 -- a text byte, and before it the `/` where that was held
 abbrev pub released : Bool → ℕ → List ℕ
@@ -53,8 +54,8 @@ obeys s o = record { state = withStored s (o .stored); line = []; host = framed 
 -- what the command reader made of the byte; a finished command's fields stand in the reader before it
 abbrev pub hosted : State → List ℕ → Out → Step
 hosted s fields Nothing = quiet s
-hosted s fields (One b) = sends s (text (s .connection) (released false b))
-hosted s fields (Two b) = sends s (text (s .connection) (released true b))
+hosted s fields (One b) = sends s (text (route (s .connection) Host) (released false b))
+hosted s fields (Two b) = sends s (text (route (s .connection) Host) (released true b))
 hosted s fields (Finished v count) = obeys s (commanded (s .settings) (s .connection) v count fields)
 
 abbrev pub hostStep : State → ℕ → Step
@@ -81,15 +82,15 @@ readCase case Return = case
 readCase case (Shift to) = to
 readCase case (Char bell) = case
 
--- line codes go to the host in mode 1, and to the TU unchanged in mode 4
-abbrev pub lined : Connection → State → ℕ → Step
-lined (Mode1 port speed) s c = record { state = withReading s (readCase (s .reading) (kindOf c)); line = []; host = readAs (s .settings .reports) (s .reading) (kindOf c) c; tu = [] }
-lined (Mode4 port speed) s c = record { state = s; line = []; host = []; tu = c ∷ [] }
-lined Mode10 s c = quiet s
-lined Mode11 s c = quiet s
+-- line codes on their route: read for the host, or to the TU unchanged
+abbrev pub lined : Route → State → ℕ → Step
+lined Dropped s c = quiet s
+lined ToPrinter s c = quiet s
+lined ToHost s c = record { state = withReading s (readCase (s .reading) (kindOf c)); line = []; host = readAs (s .settings .reports) (s .reading) (kindOf c) c; tu = [] }
+lined ToTu s c = record { state = s; line = []; host = []; tu = c ∷ [] }
 
 abbrev pub lineStep : State → ℕ → Step
-lineStep s c = lined (s .connection) s c
+lineStep s c = lined (route (s .connection) Line) s c
 
 -- TU codes.
 
@@ -102,15 +103,15 @@ abbrev pub caseOf : Asks → Case
 caseOf Text = Letters
 caseOf (Codes case) = case
 
--- they go to the printer in mode 4
-abbrev pub tued : Connection → State → ℕ → Step
-tued (Mode1 port speed) s c = quiet s
-tued (Mode4 port speed) s c = carried s c
-tued Mode10 s c = quiet s
-tued Mode11 s c = quiet s
+-- TU codes on their route
+abbrev pub tued : Route → State → ℕ → Step
+tued Dropped s c = quiet s
+tued ToPrinter s c = carried s c
+tued ToHost s c = quiet s
+tued ToTu s c = quiet s
 
 abbrev pub tuStep : State → ℕ → Step
-tuStep s c = tued (s .connection) s c
+tuStep s c = tued (route (s .connection) Tu) s c
 
 -- One byte of a stream, and many.
 

@@ -4,6 +4,7 @@ mod answers;
 pub mod host;
 pub mod line;
 mod puts;
+pub mod routes;
 pub mod sends;
 pub mod soundness;
 pub mod states;
@@ -13,6 +14,21 @@ use command::Reader;
 use sender::Sender;
 use settings::Connection;
 use settings::Settings;
+
+// Where a byte comes from.
+pub enum Stream {
+    Host,
+    Line,
+    Tu,
+}
+
+// Where the bytes of a stream go: nowhere, to the printer, to the host or to the TU.
+pub enum Route {
+    Dropped,
+    ToPrinter,
+    ToHost,
+    ToTu,
+}
 
 // All that the box knows. The fields' sizes: settings 14, connection 3, sender 6 (record 4, last item 2), the two cases 2, the
 // command reader 15: 40 bytes.

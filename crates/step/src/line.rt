@@ -1,21 +1,23 @@
-// Line codes: to the host in mode 1, to the TU in mode 4.
+// Line codes on their route: to the host or to the TU.
 ghost use mathlib.Core.Path.{_≡_};
 ghost use Rattle.code.specs.Kinds.{kindOf};
 ghost use Rattle.step.specs.Names.{Line as Names·Line};
 ghost use Rattle.step.specs.State.{withReading};
 ghost use Rattle.step.specs.Step.{isRead, readAs, readCase, lineStep};
 ghost use Rattle.step.specs.Byte.{Puts, Offers};
+use crate::Route;
 use crate::State;
+use crate::Stream;
 use crate::Taken;
 use crate::Took;
 use crate::puts::in_first;
 use crate::puts::in_second;
 use crate::puts::none;
 use crate::puts::put_one;
+use crate::routes::route;
 use crate::states::with_reading;
 use code::Case;
 use code::Kind;
-use settings::Connection;
 
 // The reading case after a code of this kind.
 fn read_case(case: Case, k: Kind) -> Case
@@ -67,10 +69,10 @@ pub fn put_line(s: State, c: u8, host: &mut [u8], tu: &mut [u8]) -> Taken
         ⌝ }
 {
     let connection = s.connection;
-    match connection {
-        Connection::Mode1(_, _) => in_first(put_read(s, c, host)),
-        Connection::Mode4(_, _) => in_second(put_one(s, c, tu)),
-        Connection::Mode10 => in_first(none(s)),
-        Connection::Mode11 => in_first(none(s)),
+    match route(connection, Stream::Line) {
+        Route::Dropped => in_first(none(s)),
+        Route::ToPrinter => in_first(none(s)),
+        Route::ToHost => in_first(put_read(s, c, host)),
+        Route::ToTu => in_second(put_one(s, c, tu)),
     }
 }

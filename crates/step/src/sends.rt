@@ -3,14 +3,18 @@ ghost use mathlib.Core.Path.{_≡_};
 ghost use mathlib.Core.Bool.{false};
 ghost use lib.ListN.{length};
 ghost use Rattle.sender.specs.Sends.{counted, sends as codesSent, Sends};
-ghost use Rattle.step.specs.Names.{Text as Names·Text};
+ghost use Rattle.step.specs.Names.{Host as Names·Host, Text as Names·Text};
+ghost use Rattle.step.specs.Route.{route};
 ghost use Rattle.step.specs.Step.{sends, asked, text, released, carried, caseOf, tuStep};
 ghost use Rattle.step.specs.Byte.{Puts};
 ghost use Rattle.step.specs.Step.{caseOf};
+use crate::Route;
 use crate::State;
+use crate::Stream;
 use crate::Took;
 use crate::puts::no_room;
 use crate::puts::none;
+use crate::routes::route;
 use crate::states::with_incoming;
 use crate::states::with_sender;
 use code::Case;
@@ -18,7 +22,6 @@ use sender::Asks;
 use sender::Item;
 use sender::Sender;
 use sender::Sent;
-use settings::Connection;
 use settings::Settings;
 
 // How many codes text is, and the sender after it: the byte, and before it the `/` where that was held.
@@ -52,7 +55,7 @@ fn send_text(o: Settings, s: Sender, slash: bool, b: u8, out: &mut [u8]) -> Sent
     }
 }
 
-// Text to a line in mode 1.
+// Text to the printer.
 fn put_items(s: State, slash: bool, b: u8, out: &mut [u8]) -> Took
     ensures { λ r. ⌜
         Puts (sends s (asked (released slash b)) .state) (sends s (asked (released slash b)) .line) (now (out .entry)) (now (out .exit)) r
@@ -74,18 +77,18 @@ fn put_items(s: State, slash: bool, b: u8, out: &mut [u8]) -> Took
     }
 }
 
-// Text to the line in mode 1; in the others it is dropped.
+// Text to the printer, where that is its route; otherwise it is dropped.
 pub fn put_text(s: State, slash: bool, b: u8, out: &mut [u8]) -> Took
     ensures { λ r. ⌜
-        Puts (sends s (text (s .connection) (released slash b)) .state) (sends s (text (s .connection) (released slash b)) .line) (now (out .entry)) (now (out .exit)) r
+        Puts (sends s (text (route (s .connection) Names·Host) (released slash b)) .state) (sends s (text (route (s .connection) Names·Host) (released slash b)) .line) (now (out .entry)) (now (out .exit)) r
         ⌝ }
 {
     let connection = s.connection;
-    match connection {
-        Connection::Mode1(_, _) => put_items(s, slash, b, out),
-        Connection::Mode4(_, _) => none(s),
-        Connection::Mode10 => none(s),
-        Connection::Mode11 => none(s),
+    match route(connection, Stream::Host) {
+        Route::Dropped => none(s),
+        Route::ToPrinter => put_items(s, slash, b, out),
+        Route::ToHost => none(s),
+        Route::ToTu => none(s),
     }
 }
 
@@ -122,15 +125,15 @@ fn put_code(s: State, c: u8, out: &mut [u8]) -> Took
     }
 }
 
-// One TU code, with the part of the line buffer that is free: to the printer in mode 4, and dropped in the others.
+// One TU code, with the part of the line buffer that is free: to the printer, where that is its route; otherwise it is dropped.
 pub fn put_tu(s: State, c: u8, line: &mut [u8]) -> Took
     ensures { λ r. ⌜ Puts (tuStep s c .state) (tuStep s c .line) (now (line .entry)) (now (line .exit)) r ⌝ }
 {
     let connection = s.connection;
-    match connection {
-        Connection::Mode1(_, _) => none(s),
-        Connection::Mode4(_, _) => put_code(s, c, line),
-        Connection::Mode10 => none(s),
-        Connection::Mode11 => none(s),
+    match route(connection, Stream::Tu) {
+        Route::Dropped => none(s),
+        Route::ToPrinter => put_code(s, c, line),
+        Route::ToHost => none(s),
+        Route::ToTu => none(s),
     }
 }

@@ -13,79 +13,35 @@ use sender::Sender;
 use settings::Stored;
 
 // The state with another command reader.
-pub fn with_reader(s: State, reader: Reader) -> State
+pub fn with_reader(mut s: State, reader: Reader) -> State
     ensures { λ r. ⌜ r ≡ withReader s reader ⌝ }
 {
-    let settings = s.settings;
-    let connection = s.connection;
-    let sender = s.sender;
-    let reading = s.reading;
-    let incoming = s.incoming;
-    State {
-        settings,
-        connection,
-        sender,
-        reading,
-        incoming,
-        reader,
-    }
+    s.reader = reader;
+    s
 }
 
 // The state with another sender.
-pub fn with_sender(s: State, sender: Sender) -> State
+pub fn with_sender(mut s: State, sender: Sender) -> State
     ensures { λ r. ⌜ r ≡ withSender s sender ⌝ }
 {
-    let settings = s.settings;
-    let connection = s.connection;
-    let reading = s.reading;
-    let incoming = s.incoming;
-    let reader = s.reader;
-    State {
-        settings,
-        connection,
-        sender,
-        reading,
-        incoming,
-        reader,
-    }
+    s.sender = sender;
+    s
 }
 
 // The state with another reading case.
-pub fn with_reading(s: State, case: Case) -> State
+pub fn with_reading(mut s: State, case: Case) -> State
     ensures { λ r. ⌜ r ≡ withReading s case ⌝ }
 {
-    let settings = s.settings;
-    let connection = s.connection;
-    let sender = s.sender;
-    let incoming = s.incoming;
-    let reader = s.reader;
-    State {
-        settings,
-        connection,
-        sender,
-        reading: case,
-        incoming,
-        reader,
-    }
+    s.reading = case;
+    s
 }
 
 // The state with another incoming reading case.
-pub fn with_incoming(s: State, case: Case) -> State
+pub fn with_incoming(mut s: State, case: Case) -> State
     ensures { λ r. ⌜ r ≡ withIncoming s case ⌝ }
 {
-    let settings = s.settings;
-    let connection = s.connection;
-    let sender = s.sender;
-    let reading = s.reading;
-    let reader = s.reader;
-    State {
-        settings,
-        connection,
-        sender,
-        reading,
-        incoming: case,
-        reader,
-    }
+    s.incoming = case;
+    s
 }
 
 // The sender on connection: the record unknown, no last item.
@@ -102,31 +58,15 @@ pub fn fresh_sender() -> Sender
 }
 
 // The state with what a command stored.
-pub fn with_stored(s: State, t: Stored) -> State
+pub fn with_stored(mut s: State, t: Stored) -> State
     ensures { λ r. ⌜ r ≡ withStored s t ⌝ }
 {
-    let settings = t.settings;
-    let connection = t.connection;
-    let reader = s.reader;
+    s.settings = t.settings;
+    s.connection = t.connection;
     if t.connected {
-        return State {
-            settings,
-            connection,
-            sender: fresh_sender(),
-            reading: Case::Letters,
-            incoming: Case::Letters,
-            reader,
-        };
+        s.sender = fresh_sender();
+        s.reading = Case::Letters;
+        s.incoming = Case::Letters;
     }
-    let sender = s.sender;
-    let reading = s.reading;
-    let incoming = s.incoming;
-    State {
-        settings,
-        connection,
-        sender,
-        reading,
-        incoming,
-        reader,
-    }
+    s
 }
