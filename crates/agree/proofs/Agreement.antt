@@ -6,6 +6,7 @@ use mathlib.Core.Bool.{Bool, true, false, false≢true}
 use mathlib.Core.List.{List, [], _∷_}
 use native.Mathlib.Omega.{arith}
 use Rattle.code.specs.Kinds.{kindOf, strikes}
+use Rattle.settings.specs.Options.{onspace, onreturn}
 use Rattle.printer.specs.Printer.{unshifted, hearCase, advanced, hearCount, hearKind, hear, hears}
 use Rattle.sender.specs.Record.{unknown, noteUnshift, noteCase, next, noteChar, noteColumn, noteKind, note, notes}
 use Rattle.agree.specs.Names.{Case, Letters, Figures, Kind, Still, Space, Return, Shift, Char, Settings, Printer, Known, Is, Column, At, Record}
@@ -34,8 +35,8 @@ char-kept true (Is Figures) case col count a b = rw (← a) b
 module _ (o : Settings) (r : Record) (p : Printer) (a : Agrees r p) where
   case-kept : (k : Kind) → ObeysAt o p k → CaseAgrees (noteCase o (r .case) k) (hearCase p k)
   case-kept Still obeys = a .case
-  case-kept Space obeys = unshift-kept (p .onspace) (o .onspace) (r .case) (p .case) obeys (a .case)
-  case-kept Return obeys = unshift-kept (p .onreturn) (o .onreturn) (r .case) (p .case) obeys (a .case)
+  case-kept Space obeys = unshift-kept (p .onspace) (onspace o) (r .case) (p .case) obeys (a .case)
+  case-kept Return obeys = unshift-kept (p .onreturn) (onreturn o) (r .case) (p .case) obeys (a .case)
   case-kept (Shift to) obeys = refl
   case-kept (Char bell) obeys = a .case
 

@@ -6,6 +6,7 @@ use mathlib.Core.Bool.{Bool, true, false, cond, _&&_}
 use mathlib.Core.List.{List, [], _∷_, _++_, append-assoc}
 use Rattle.code.specs.Kinds.{kindOf, shifts}
 use Rattle.code.proofs.Laws.{kind-shift}
+use Rattle.settings.specs.Options.{filter}
 use Rattle.printer.specs.Printer.{hearKind, hear, hears, sheet}
 use Rattle.sender.specs.Record.{notes}
 use Rattle.sender.specs.Item.{character, lastOf, repeats, item, afterItem, items, afterItems}
@@ -27,7 +28,7 @@ sheet-shifts p (to ∷ ts) = rw (kind-shift to) (sheet-shifts (hearKind p (Shift
 
 -- an item is nothing, or its character
 pub item-cases : (o : Settings) (s : Sender) (w : Wanted) (P : List ℕ → Type 0) → P [] → P (character o (s .held) w) → P (item o s w)
-item-cases o s w P dropped sent = go (repeats (lastOf (kindOf (w .code))) (s .last) && o .filter)
+item-cases o s w P dropped sent = go (repeats (lastOf (kindOf (w .code))) (s .last) && filter o)
   where
     go : (b : Bool) → P (cond b [] (character o (s .held) w))
     go true = dropped

@@ -12,6 +12,7 @@ use Rattle.laws.proofs.Both.{both}
 use Rattle.code.specs.Rows.{rowAt}
 use Rattle.code.specs.Kinds.{kindOf, shifts}
 use Rattle.settings.specs.Table.{allCodes, padded, opens, soundString, soundSettings}
+use Rattle.settings.specs.Options.{limit, onreturn, endingCodes}
 use Rattle.sender.specs.Record.{noteColumn, noteKind, note, notes}
 use Rattle.sender.specs.Code.{unshift, sendKind}
 use Rattle.sender.specs.Ending.{onRecord, endingOf, untilZero}
@@ -75,8 +76,8 @@ ending-home m o (c ∷ cs) h short r = go (kindOf c) refl h (λ q. ending-home m
     go Still e h rest = rw e (rest h (noteKind o r Still))
     go Space e h rest = absurd (false≢true h)
     go Return e h rest =
-        let u = shifts (unshift (o .onreturn) (r .case)) in
-        rw e (omega (arith, weight-append u (endingOf o (notes o r (c ∷ u)) cs), weight-shifts (unshift (o .onreturn) (r .case)), weight-ending o (notes o r (c ∷ u)) cs))
+        let u = shifts (unshift (onreturn o) (r .case)) in
+        rw e (omega (arith, weight-append u (endingOf o (notes o r (c ∷ u)) cs), weight-shifts (unshift (onreturn o) (r .case)), weight-ending o (notes o r (c ∷ u)) cs))
     go (Shift to) e h rest = rw e (rest h (noteKind o r (Shift to)))
     go (Char bell) e h rest = absurd (false≢true h)
 
@@ -97,22 +98,22 @@ home-column m o (c ∷ cs) h r = go (kindOf c) refl h (home-column m o cs)
 -- What sound settings say of the limit and of string 90.
 
 pub record Sound (o : Settings) : Type 0 where
-  pub least : 10 ≤ o .limit
-  pub most : o .limit ≤ 80
-  pub home : (r : Record) → Home 7 (endingOf o r (untilZero (o .string)))
-  pub short : length (untilZero (o .string)) ≤ 8
+  pub least : 10 ≤ limit o
+  pub most : limit o ≤ 80
+  pub home : (r : Record) → Home 7 (endingOf o r (untilZero (endingCodes o)))
+  pub short : length (untilZero (endingCodes o)) ≤ 8
 
-pub sound : (o : Settings) → soundSettings o ≡ true → length (o .string) ≡ 8 → Sound o
-unfolding soundString
+pub sound : (o : Settings) → soundSettings o ≡ true → length (endingCodes o) ≡ 8 → Sound o
+unfolding soundString limit endingCodes
 sound o h eight =
-    let parts = both (leb 10 (o .limit) && leb (o .limit) 80) (soundString (o .string)) h in
-    let limits = both (leb 10 (o .limit)) (leb (o .limit) 80) (parts .0) in
-    let string = both (allCodes (o .string)) (padded (o .string) && opens (o .string)) (parts .1) in
-    let opened = sound-opens (o .string) (both (padded (o .string)) (opens (o .string)) (string .1) .1) in
-    let short : length (untilZero (o .string)) ≤ 8 = omega (arith, until-short (o .string)) in
+    let parts = both (leb 10 (limit o) && leb (limit o) 80) (soundString (endingCodes o)) h in
+    let limits = both (leb 10 (limit o)) (leb (limit o) 80) (parts .0) in
+    let string = both (allCodes (endingCodes o)) (padded (endingCodes o) && opens (endingCodes o)) (parts .1) in
+    let opened = sound-opens (endingCodes o) (both (padded (endingCodes o)) (opens (endingCodes o)) (string .1) .1) in
+    let short : length (untilZero (endingCodes o)) ≤ 8 = omega (arith, until-short (endingCodes o)) in
     record {
-      least = leb-true 10 (o .limit) (limits .0);
-      most = leb-true (o .limit) 80 (limits .1);
-      home = ending-home 7 o (untilZero (o .string)) opened short;
+      least = leb-true 10 (limit o) (limits .0);
+      most = leb-true (limit o) 80 (limits .1);
+      home = ending-home 7 o (untilZero (endingCodes o)) opened short;
       short = short;
     }

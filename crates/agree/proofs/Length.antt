@@ -9,6 +9,7 @@ use native.Mathlib.Omega.{arith}
 use lib.ListN.{length, length-append}
 use Rattle.code.specs.Kinds.{kindOf, moves, shifts}
 use Rattle.settings.specs.Table.{soundSettings}
+use Rattle.settings.specs.Options.{limit, onspace, onreturn, endingCodes}
 use Rattle.sender.specs.Record.{notes}
 use Rattle.sender.specs.Code.{shiftTo, unshift, sendKind, sendAs}
 use Rattle.sender.specs.Ending.{onRecord, endingCode, endingOf, untilZero, due, ending, endingBefore}
@@ -51,8 +52,8 @@ paid-shift (Is Figures) c = omega arith
 
 paid-kind : (o : Settings) (n : Known) (c : ℕ) (k : Kind) → Paid n (sendKind o n (onRecord n) k c) (afterCase o n (onRecord n) k)
 paid-kind o n c Still = omega arith
-paid-kind o n c Space = paid-unshift (o .onspace) n c
-paid-kind o n c Return = paid-unshift (o .onreturn) n c
+paid-kind o n c Space = paid-unshift (onspace o) n c
+paid-kind o n c Return = paid-unshift (onreturn o) n c
 paid-kind o n c (Shift to) = omega (arith, unsure-most (Is to))
 paid-kind o n c (Char bell) = paid-shift n c
 
@@ -68,7 +69,7 @@ ending-length o r (c ∷ cs) =
 
 module _ (o : Settings) (t : Sound o) where
   pub ending-most : (r : Record) (b : Bool) → length (ending o r b) ≤ 12
-  ending-most r true = omega (arith, ending-length o r (untilZero (o .string)), t .short, unsure-most (r .case))
+  ending-most r true = omega (arith, ending-length o r (untilZero (endingCodes o)), t .short, unsure-most (r .case))
   ending-most r false = omega arith
 
   item-most : (s : Sender) (w : Wanted) → length (item o s w) ≤ 14
@@ -100,7 +101,7 @@ module _ (o : Settings) (t : Sound o) where
           let r = notes o (s .held) e in
           let x = sendAs o (r .case) (w .case) (w .code) in
           let col = notes o (s .held) (e ++ x) .column in
-          let low : places col < o .limit = rw (notes-append o (s .held) e x) (omega (arith, due-ends o t (s .held), column-reach o r x, weight-code o (r .case) (w .case) (w .code), t .least)) in
+          let low : places col < limit o = rw (notes-append o (s .held) e x) (omega (arith, due-ends o t (s .held), column-reach o r x, weight-code o (r .case) (w .case) (w .code), t .least)) in
           let short = item-short (after (e ++ x)) v (low-not-due o t col low) in
           omega (arith, length-append e x, ending-most (s .held) true, code-length o (r .case) (w .case) (w .code), short)
       go false =
@@ -113,7 +114,7 @@ one-wanted Nothing = omega arith
 one-wanted (Free c) = omega arith
 one-wanted (Cased case c) = omega arith
 
-module _ (o : Settings) (h : soundSettings o ≡ true) (eight : length (o .string) ≡ 8) where
+module _ (o : Settings) (h : soundSettings o ≡ true) (eight : length (endingCodes o) ≡ 8) where
   pub item-length : (s : Sender) (w : Wanted) → length (item o s w) ≤ 14
   item-length s w = item-most o (sound o h eight) s w
 

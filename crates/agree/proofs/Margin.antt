@@ -10,6 +10,7 @@ use lib.ListN.{length}
 use borrow.Author.Tests.{leb-false, lt-leb}
 use Rattle.code.specs.Kinds.{kindOf, moves}
 use Rattle.settings.specs.Table.{soundSettings}
+use Rattle.settings.specs.Options.{endings, limit, endingCodes}
 use Rattle.printer.specs.Printer.{hearCount, hear, hears, landing, markAs, printsAs, prints, sheet}
 use Rattle.sender.specs.Record.{notes}
 use Rattle.sender.specs.Code.{sendAs}
@@ -88,56 +89,56 @@ count-below limit column.Unknown count most sure a h = absurd sure
 count-below limit (At n) count most sure a h = omega arith
 
 module _ (o : Settings) (t : Sound o) where
-  not-due : (col : Column) → o .endings ≡ true → due o col ≡ false → places col < o .limit
+  not-due : (col : Column) → endings o ≡ true → due o col ≡ false → places col < limit o
   not-due column.Unknown on h = omega (arith, t .least)
-  not-due (At n) on h = leb-false (o .limit) n (rw on at h)
+  not-due (At n) on h = leb-false (limit o) n (rw on at h)
 
   -- after the ending that is due, no other is
   pub due-ends : (r : Record) → places (notes o r (ending o r true) .column) ≤ 7
-  due-ends r = home-column 7 o (endingOf o r (untilZero (o .string))) (t .home r) r
+  due-ends r = home-column 7 o (endingOf o r (untilZero (endingCodes o))) (t .home r) r
 
-  pub low-not-due : (col : Column) → places col < o .limit → due o col ≡ false
+  pub low-not-due : (col : Column) → places col < limit o → due o col ≡ false
   low-not-due column.Unknown h = refl
-  low-not-due (At n) h = rw (lt-leb (o .limit) n h) (and-false (o .endings))
+  low-not-due (At n) h = rw (lt-leb (limit o) n h) (and-false (endings o))
 
-  module _ (on : o .endings ≡ true) (r : Record) (w : Wanted) where
-    below-limit : moves (w .case) (kindOf (w .code)) ≡ true → places (notes o r (endingBefore o r w) .column) < o .limit
+  module _ (on : endings o ≡ true) (r : Record) (w : Wanted) where
+    below-limit : moves (w .case) (kindOf (w .code)) ≡ true → places (notes o r (endingBefore o r w) .column) < limit o
     below-limit h = go (moves (w .case) (kindOf (w .code)) && due o (r .column)) refl
       where
-        go : (b : Bool) → (moves (w .case) (kindOf (w .code)) && due o (r .column)) ≡ b → places (notes o r (ending o r b) .column) < o .limit
+        go : (b : Bool) → (moves (w .case) (kindOf (w .code)) && due o (r .column)) ≡ b → places (notes o r (ending o r b) .column) < limit o
         go true e = omega (arith, due-ends r, t .least)
         go false e = not-due (r .column) on (rw h at e)
 
-    ending-below : (p : Printer) → Below (o .limit) (sheet p (endingBefore o r w))
+    ending-below : (p : Printer) → Below (limit o) (sheet p (endingBefore o r w))
     ending-below p = go (moves (w .case) (kindOf (w .code)) && due o (r .column))
       where
-        go : (b : Bool) → Below (o .limit) (sheet p (ending o r b))
-        go true = home-below (o .limit) 7 (omega (arith, t .least)) (endingOf o r (untilZero (o .string))) (t .home r) p
+        go : (b : Bool) → Below (limit o) (sheet p (ending o r b))
+        go true = home-below (limit o) 7 (omega (arith, t .least)) (endingOf o r (untilZero (endingCodes o))) (t .home r) p
         go false = tt
 
-    character-below : (p : Printer) → ColumnSure (r .column) → Obeys o p (character o r w) → Agrees r p → Below (o .limit) (sheet p (character o r w))
+    character-below : (p : Printer) → ColumnSure (r .column) → Obeys o p (character o r w) → Agrees r p → Below (limit o) (sheet p (character o r w))
     character-below p sure obeys a =
         let e = endingBefore o r w in
         let q = hears p e in
         let cs = sendAs o (notes o r e .case) (w .case) (w .code) in
         let b = agreement o r p e (obeys-append o p e cs obeys .0) a in
         rw (sheet-append p e cs, code-prints o (notes o r e) q (w .case) (w .code) b)
-        (below-append (o .limit) (sheet p e) (printsAs (kindOf (w .code)) (markAs (kindOf (w .code)) (w .case) (q .count) (w .code))) (ending-below p)
-        (mark-below (o .limit) (kindOf (w .code)) (w .case) (q .count) (w .code)
-        (λ h. count-below (o .limit) (notes o r e .column) (q .count) (t .most) (ending-keeps o r w sure) (b .column) (below-limit h))))
+        (below-append (limit o) (sheet p e) (printsAs (kindOf (w .code)) (markAs (kindOf (w .code)) (w .case) (q .count) (w .code))) (ending-below p)
+        (mark-below (limit o) (kindOf (w .code)) (w .case) (q .count) (w .code)
+        (λ h. count-below (limit o) (notes o r e .column) (q .count) (t .most) (ending-keeps o r w sure) (b .column) (below-limit h))))
 
 -- every space and struck character of an item and of its ending
-module _ (o : Settings) (h : soundSettings o ≡ true) (eight : length (o .string) ≡ 8) (on : o .endings ≡ true) where
-  pub item-below : (s : Sender) (p : Printer) (w : Wanted) → ColumnSure (s .held .column) → Obeys o p (item o s w) → Agrees (s .held) p → Below (o .limit) (sheet p (item o s w))
+module _ (o : Settings) (h : soundSettings o ≡ true) (eight : length (endingCodes o) ≡ 8) (on : endings o ≡ true) where
+  pub item-below : (s : Sender) (p : Printer) (w : Wanted) → ColumnSure (s .held .column) → Obeys o p (item o s w) → Agrees (s .held) p → Below (limit o) (sheet p (item o s w))
   item-below s p w sure obeys a =
-      item-cases o s w (λ cs. Obeys o p cs → Below (o .limit) (sheet p cs)) (λ h. tt) (λ q. character-below o (sound o h eight) on (s .held) w p sure q a) obeys
+      item-cases o s w (λ cs. Obeys o p cs → Below (limit o) (sheet p cs)) (λ h. tt) (λ q. character-below o (sound o h eight) on (s .held) w p sure q a) obeys
 
-  pub items-below : (s : Sender) (p : Printer) (ws : List Wanted) → ColumnSure (s .held .column) → Obeys o p (items o s ws) → Agrees (s .held) p → Below (o .limit) (sheet p (items o s ws))
+  pub items-below : (s : Sender) (p : Printer) (ws : List Wanted) → ColumnSure (s .held .column) → Obeys o p (items o s ws) → Agrees (s .held) p → Below (limit o) (sheet p (items o s ws))
   items-below s p [] sure obeys a = tt
   items-below s p (w ∷ ws) sure obeys a =
       let cs = item o s w in
       let t = items o (afterItem o s w) ws in
       let both = obeys-append o p cs t obeys in
       rw (sheet-append p cs t)
-      (below-append (o .limit) (sheet p cs) (sheet (hears p cs) t) (item-below s p w sure (both .0) a)
+      (below-append (limit o) (sheet p cs) (sheet (hears p cs) t) (item-below s p w sure (both .0) a)
       (items-below (afterItem o s w) (hears p cs) ws (column-told o s (w ∷ []) true (λ h. sure) refl) (both .1) (agreement o (s .held) p cs (both .0) a)))

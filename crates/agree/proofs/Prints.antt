@@ -5,6 +5,7 @@ use mathlib.Core.Path.{_≡_, refl, ap}
 use mathlib.Core.List.{List, [], _∷_, _++_}
 use Rattle.code.specs.Kinds.{kindOf, dependent, shifts}
 use Rattle.code.proofs.Laws.{kind-shift, alike}
+use Rattle.settings.specs.Options.{onspace, onreturn}
 use Rattle.printer.specs.Printer.{hearKind, from, markAs, printsAs, sheet}
 use Rattle.sender.specs.Code.{shiftTo, unshift, sendKind, sendAs}
 use Rattle.agree.specs.Names.{Case, Letters, Figures, Kind, Still, Space, Return, Shift, Char, Settings, Printer, Known, Is, Record}
@@ -26,7 +27,7 @@ code-prints o r p want c a = go (kindOf c) refl
   where
     go : (k : Kind) → kindOf c ≡ k → sheet p (sendKind o (r .case) want k c) ≡ printsAs k (markAs k want (p .count) c)
     go Still e = rw (e, alike c (p .case) want (ap dependent e))
-    go Space e = rw (e, alike c (p .case) want (ap dependent e), sheet-shifts (hearKind p Space) (unshift (o .onspace) (r .case)))
-    go Return e = rw (e, alike c (p .case) want (ap dependent e), sheet-shifts (hearKind p Return) (unshift (o .onreturn) (r .case)))
+    go Space e = rw (e, alike c (p .case) want (ap dependent e), sheet-shifts (hearKind p Space) (unshift (onspace o) (r .case)))
+    go Return e = rw (e, alike c (p .case) want (ap dependent e), sheet-shifts (hearKind p Return) (unshift (onreturn o) (r .case)))
     go (Shift to) e = rw e
     go (Char bell) e = rw (shift-turns (r .case) want p (c ∷ []) (a .case), e)

@@ -7,6 +7,7 @@ use mathlib.Core.Bool.{Bool, true, false, cond, _&&_, _||_, or-false, or-assoc}
 use mathlib.Core.List.{List, [], _∷_, _++_}
 use Rattle.code.specs.Kinds.{kindOf, strikes, moves, shifts}
 use Rattle.code.proofs.Laws.{kind-shift}
+use Rattle.settings.specs.Options.{onspace, onreturn, endingCodes}
 use Rattle.sender.specs.Record.{next, notes}
 use Rattle.sender.specs.Code.{shiftTo, unshift, sendKind, sendAs}
 use Rattle.sender.specs.Ending.{onRecord, endingCode, endingOf, untilZero, due, ending, endingBefore}
@@ -44,7 +45,7 @@ module _ (o : Settings) (K : Record → Type 0) (f : Kind → Bool) (code : (r :
   told-before r w = go (moves (w .case) (kindOf (w .code)) && due o (r .column))
     where
       go : (b : Bool) → Told o K f r (ending o r b)
-      go true = told-string r (untilZero (o .string))
+      go true = told-string r (untilZero (endingCodes o))
       go false = told-none r
 
   told-item : (s : Sender) (w : Wanted) → Told o K f (s .held) (item o s w)
@@ -77,7 +78,7 @@ code-returns o n want c = go (kindOf c) refl
   where
     go : (k : Kind) → kindOf c ≡ k → holds isReturn (sendKind o n want k c) ≡ isReturn k
     go Still e = rw e
-    go Space e = rw (e, shifts-silent (unshift (o .onspace) n))
+    go Space e = rw (e, shifts-silent (unshift (onspace o) n))
     go Return e = rw e
     go (Shift to) e = rw e
     go (Char bell) e = rw (holds-append isReturn (shifts (shiftTo n want)) (c ∷ []), shifts-silent (shiftTo n want), e)
@@ -118,8 +119,8 @@ case-code o r want c b before h = rw (record-after o r want c) (go (kindOf c) re
 
     go : (k : Kind) → kindOf c ≡ k → (b || holds isCased (sendKind o (r .case) want k c)) ≡ true → CaseSure (afterCase o (r .case) want k)
     go Still e h = known (rw e at h)
-    go Space e h = unshifted (o .onspace) (rw e at h)
-    go Return e h = unshifted (o .onreturn) (rw e at h)
+    go Space e h = unshifted (onspace o) (rw e at h)
+    go Return e h = unshifted (onreturn o) (rw e at h)
     go (Shift to) e h = tt
     go (Char bell) e h = tt
 

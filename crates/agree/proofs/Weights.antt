@@ -8,6 +8,7 @@ use native.Mathlib.Omega.{arith}
 use lib.ListN.{length}
 use Rattle.code.specs.Kinds.{kindOf, strikes, shifts}
 use Rattle.code.proofs.Laws.{kind-shift}
+use Rattle.settings.specs.Options.{onspace, onreturn}
 use Rattle.printer.specs.Printer.{advanced, hearCount}
 use Rattle.sender.specs.Record.{next, noteChar, noteColumn, note, notes}
 use Rattle.sender.specs.Code.{shiftTo, unshift, sendKind, sendAs}
@@ -43,8 +44,8 @@ weight-code o n want c = go (kindOf c) refl
   where
     go : (k : Kind) → kindOf c ≡ k → weight (sendKind o n want k c) ≤ 1
     go Still e = rw e (omega arith)
-    go Space e = rw (e, weight-shifts (unshift (o .onspace) n)) (omega arith)
-    go Return e = rw (e, weight-shifts (unshift (o .onreturn) n)) (omega arith)
+    go Space e = rw (e, weight-shifts (unshift (onspace o) n)) (omega arith)
+    go Return e = rw (e, weight-shifts (unshift (onreturn o) n)) (omega arith)
     go (Shift to) e = rw e (omega arith)
     go (Char bell) e = rw (weight-append (shifts (shiftTo n want)) (c ∷ []), weight-shifts (shiftTo n want), e) (omega arith)
 

@@ -4,6 +4,7 @@ use mathlib.Core.Path.{_≡_}
 use mathlib.Core.Bool.{true}
 use mathlib.Core.List.{List, [], _∷_}
 use Rattle.code.specs.Kinds.{kindOf}
+use Rattle.settings.specs.Options.{onspace, onreturn}
 use Rattle.printer.specs.Printer.{hear}
 use Rattle.agree.specs.Names.{Case, Kind, Still, Space, Return, Shift, Char, Settings, Printer, Known, Is, Column, At, Record}
 use Rattle.agree.specs.Names.known
@@ -26,8 +27,8 @@ pub record Agrees (r : Record) (p : Printer) : Type 0 where
 -- the printer unshifts by itself on a space or a return only if the option is on
 abbrev pub ObeysAt : Settings → Printer → Kind → Type 0
 ObeysAt o p Still = Unit {0}
-ObeysAt o p Space = p .onspace ≡ true → o .onspace ≡ true
-ObeysAt o p Return = p .onreturn ≡ true → o .onreturn ≡ true
+ObeysAt o p Space = p .onspace ≡ true → onspace o ≡ true
+ObeysAt o p Return = p .onreturn ≡ true → onreturn o ≡ true
 ObeysAt o p (Shift to) = Unit {0}
 ObeysAt o p (Char bell) = Unit {0}
 
