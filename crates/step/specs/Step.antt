@@ -9,6 +9,7 @@ use Rattle.code.specs.Convert.{conversion}
 use Rattle.message.specs.Message.{framed}
 use Rattle.command.specs.Read.{read, textOf}
 use Rattle.settings.specs.Command.{commanded}
+use Rattle.settings.specs.Options.{reports}
 use Rattle.sender.specs.Item.{items, afterItems, wanted, wantedOf, incoming}
 use Rattle.step.specs.Names.{Asks, Text, Codes, Case, Letters, Kind, Still, Space, Return, Shift, Char, Reader, Out, Nothing, One, Two, Finished, Route, Dropped, ToPrinter, ToHost, ToTu, Outcome, Wanted, State, Stream, Host, Line, Tu}
 use Rattle.step.specs.Route.{route}
@@ -86,7 +87,7 @@ readCase case (Char bell) = case
 abbrev pub lined : Route → State → ℕ → Step
 lined Dropped s c = quiet s
 lined ToPrinter s c = quiet s
-lined ToHost s c = record { state = withReading s (readCase (s .reading) (kindOf c)); line = []; host = readAs (s .settings .reports) (s .reading) (kindOf c) c; tu = [] }
+lined ToHost s c = record { state = withReading s (readCase (s .reading) (kindOf c)); line = []; host = readAs (reports (s .settings)) (s .reading) (kindOf c) c; tu = [] }
 lined ToTu s c = record { state = s; line = []; host = []; tu = c ∷ [] }
 
 abbrev pub lineStep : State → ℕ → Step

@@ -1,6 +1,7 @@
 // Line codes on their route: to the host or to the TU.
 ghost use mathlib.Core.Path.{_≡_};
 ghost use Rattle.code.specs.Kinds.{kindOf};
+ghost use Rattle.settings.specs.Options.{reports};
 ghost use Rattle.step.specs.Names.{Line as Names·Line};
 ghost use Rattle.step.specs.State.{withReading};
 ghost use Rattle.step.specs.Step.{isRead, readAs, readCase, lineStep};
@@ -48,14 +49,14 @@ fn is_read(reports: bool, k: Kind) -> bool
 // A line code read for the host.
 fn put_read(s: State, c: u8, out: &mut [u8]) -> Took
     ensures { λ r. ⌜
-        Puts (withReading s (readCase (s .reading) (kindOf c))) (readAs (s .settings .reports) (s .reading) (kindOf c) c) (now (out .entry)) (now (out .exit)) r
+        Puts (withReading s (readCase (s .reading) (kindOf c))) (readAs (reports (s .settings)) (s .reading) (kindOf c) c) (now (out .entry)) (now (out .exit)) r
         ⌝ }
 {
     let settings = s.settings;
     let case = s.reading;
     let k = code::kind_of(c);
     let next = with_reading(s, read_case(case, k));
-    if is_read(settings.reports, k) {
+    if is_read(settings.reports(), k) {
         put_one(next, code::row_at(case, c), out)
     } else {
         none(next)

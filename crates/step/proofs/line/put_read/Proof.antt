@@ -15,6 +15,9 @@ read-case-requires c κs = search needs
 with-reading-requires : tie.Need-with-reading-requires
 with-reading-requires c κs = search needs
 
+reports-requires : tie.Need-reports-requires
+reports-requires c κs = search needs
+
 is-read-requires : tie.Need-is-read-requires
 is-read-requires c κs = search needs
 
@@ -33,14 +36,16 @@ same-length c = search needs
 returns : tie.Need-returns
 returns c =
     let r = c .before .before .before .before in
-    let d = r .before .before .before in
-    rw (← d .before .before .kind-of .ensures, ← d .before .read-case .ensures, ← d .with-reading .ensures, ← r .before .before .is-read .ensures, r .before .if1 .taken, ← r .row-at .ensures)
+    let o = r .before .before .before in
+    let d = o .before in
+    rw (← d .before .before .kind-of .ensures, ← d .before .read-case .ensures, ← d .with-reading .ensures, ← o .reports .ensures, ← r .before .before .is-read .ensures, r .before .if1 .taken, ← r .row-at .ensures)
     (c .before .before .put-one .ensures)
 
 returns-2 : tie.Need-returns-2
 returns-2 c =
-    let d = c .before .before .before in
-    rw (← d .before .before .kind-of .ensures, ← d .before .read-case .ensures, ← d .with-reading .ensures, ← c .before .before .is-read .ensures, c .before .if1 .left, c .none .ensures)
+    let o = c .before .before .before in
+    let d = o .before in
+    rw (← d .before .before .kind-of .ensures, ← d .before .read-case .ensures, ← d .with-reading .ensures, ← o .reports .ensures, ← c .before .before .is-read .ensures, c .before .if1 .left, c .none .ensures)
     (puts-none (d .with-reading .result) (now (d .before .before .before .before .before .args .out)))
 
 pub put-read-spec : {M : Type 1} → statement M
@@ -50,6 +55,7 @@ put-read-spec =
     kind-of-requires
     read-case-requires
     with-reading-requires
+    reports-requires
     is-read-requires
     row-at-requires
     put-one-requires
