@@ -1,5 +1,5 @@
 pub mod Bytes
-pub mod Routes
+pub mod Ways
 pub mod Sent
 pub mod Answered
 pub mod Stays

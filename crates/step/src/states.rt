@@ -29,19 +29,41 @@ pub fn with_sender(mut s: State, sender: Sender) -> State
 }
 
 // The state with another reading case.
-pub fn with_reading(mut s: State, case: Case) -> State
+pub fn with_reading(s: State, case: Case) -> State
     ensures { λ r. ⌜ r ≡ withReading s case ⌝ }
 {
-    s.reading = case;
-    s
+    let settings = s.settings;
+    let connection = s.connection;
+    let sender = s.sender;
+    let incoming = s.incoming;
+    let reader = s.reader;
+    State {
+        settings,
+        connection,
+        sender,
+        reading: case,
+        incoming,
+        reader,
+    }
 }
 
 // The state with another incoming reading case.
-pub fn with_incoming(mut s: State, case: Case) -> State
+pub fn with_incoming(s: State, case: Case) -> State
     ensures { λ r. ⌜ r ≡ withIncoming s case ⌝ }
 {
-    s.incoming = case;
-    s
+    let settings = s.settings;
+    let connection = s.connection;
+    let sender = s.sender;
+    let reading = s.reading;
+    let reader = s.reader;
+    State {
+        settings,
+        connection,
+        sender,
+        reading,
+        incoming: case,
+        reader,
+    }
 }
 
 // The sender on connection: the record unknown, no last item.
@@ -58,15 +80,31 @@ pub fn fresh_sender() -> Sender
 }
 
 // The state with what a command stored.
-pub fn with_stored(mut s: State, t: Stored) -> State
+pub fn with_stored(s: State, t: Stored) -> State
     ensures { λ r. ⌜ r ≡ withStored s t ⌝ }
 {
-    s.settings = t.settings;
-    s.connection = t.connection;
+    let settings = t.settings;
+    let connection = t.connection;
+    let reader = s.reader;
     if t.connected {
-        s.sender = fresh_sender();
-        s.reading = Case::Letters;
-        s.incoming = Case::Letters;
+        return State {
+            settings,
+            connection,
+            sender: fresh_sender(),
+            reading: Case::Letters,
+            incoming: Case::Letters,
+            reader,
+        };
     }
-    s
+    let sender = s.sender;
+    let reading = s.reading;
+    let incoming = s.incoming;
+    State {
+        settings,
+        connection,
+        sender,
+        reading,
+        incoming,
+        reader,
+    }
 }

@@ -15,7 +15,7 @@ with-stored-requires c κs = search needs
 make-first-requires : tie.Need-make-first-requires
 make-first-requires c κs =
     let r = c .before .before .before .before in
-    let b = r .before .before .before in
+    let b = r .before .before .before .before in
     let a = b .args in
     rw (r .run .ensures) (answers-short (a .s .settings) (a .s .connection) (b .pre) (a .v) (a .count) (a .fields) (b .good .1 .1 .1 .0 .1 .0 .1) .few)
 

@@ -4,7 +4,7 @@ use mathlib.Core.Path.{refl}
 use denote.Ref.{now}
 use Rattle.step.specs.Names.{Host}
 use Rattle.step.proofs.Bytes.{puts-none, offers-first, offers-second}
-use Rattle.step.proofs.Routes.{host-as}
+use Rattle.step.proofs.Ways.{host-as}
 use borrow.Author.Needs.{needs}
 use Rattle.step.proofs.host.put_read.Statement.{statement}
 use Rattle.step.proofs.host.put_read.Tie as tie
