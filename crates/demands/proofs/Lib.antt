@@ -1,3 +1,4 @@
+pub mod Most
 pub mod OurBox
 pub mod ItemCodes
 pub mod Sessions

@@ -6,17 +6,15 @@ use mathlib.Core.Bool.{Bool, true, false, cond, true≢false}
 use mathlib.Core.List.{List, [], _∷_, _++_}
 use native.Mathlib.Nat.{sub-zero, le-of-suc-le-suc}
 use native.Mathlib.Omega.{arith}
-use borrow.Author.Tests.{leb-true, le-leb}
+use borrow.Author.Tests.{leb-true}
 use lib.Dec.{leb}
-use lib.ListN.{length, getD, take, length-append}
+use lib.ListN.{length, take, length-append}
 use Rattle.laws.proofs.Both.{both}
 use Rattle.linebox.specs.Names.{State, Stream}
 use Rattle.step.specs.State.{sound}
 use Rattle.step.specs.Step.{step}
 use Rattle.linebox.specs.Call.{firstOf, secondOf, refuses, fits, Done, stopped, onward, taking, call}
-use Rattle.step.specs.Laws.{mostFirst, mostSecond}
 use Rattle.linebox.specs.Ends.{firstsOf, secondsOf, outcome, fitsAt, fromSound, When, Takes, Ends}
-use Rattle.linebox.proofs.Most.{most-first, most-second}
 
 -- what is free after both parts
 free : (a : ℕ) (f g : List ℕ) → a - length (f ++ g) ≡ (a - length f) - length g
@@ -192,16 +190,3 @@ call-fits t s xs a b = go (sound s) (taking-fits t s xs a b)
     go : (h : Bool) → Fit a b (taking t s xs a b) → Fit a b (cond h (taking t s xs a b) (stopped 3 s))
     go true p = p
     go false p = (omega arith, omega arith)
-
--- with room for the most that one byte makes, answer 1 never comes with nothing taken
-pub goes-on : (t : Stream) (s : State) (xs : List ℕ) (a b : ℕ) → mostFirst t ≤ a → mostSecond t ≤ b → call t s xs a b .answer ≡ 1 → 1 ≤ call t s xs a b .taken
-goes-on t s xs a b ra rb e = go (call t s xs a b .taken) (rw e at (ends t s xs a b))
-  where
-    go : (n : ℕ) → Ends t s xs a b 1 n → 1 ≤ n
-    go zero p =
-        let x = getD xs 0 0 in
-        let f : length (firstOf t (step t s x)) ≤ a = omega (arith, most-first t s x (p .state)) in
-        let g : length (secondOf t (step t s x)) ≤ b = omega (arith, most-second t s x (p .state)) in
-        let h : fitsAt t s xs a b 0 ≡ true = rw (sub-zero, sub-zero, le-leb _ _ f, le-leb _ _ g) in
-        absurd (true≢false (sym h ∙ p .next .1 .1))
-    go (suc n) p = omega arith

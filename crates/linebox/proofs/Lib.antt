@@ -2,7 +2,6 @@ pub mod Kept
 pub mod Plainly
 pub mod PlainText
 pub mod Turns
-pub mod Most
 pub mod Reached
 pub mod Ending
 pub mod Cutting

@@ -1,12 +1,14 @@
 -- The most that one byte makes from a sound state: 16 line codes from the host and 14 from the TU, 36 host bytes, one TU code.
 -- Assumes nothing.
-use Prim.Native.Nat.{ℕ, _≤_}
-use mathlib.Core.Path.{_≡_}
-use mathlib.Core.Bool.{Bool, true, false, cond}
+use Prim.Native.Nat.{ℕ, zero, suc, _≤_}
+use mathlib.Core.Path.{_≡_, sym, _∙_}
+use mathlib.Core.Bool.{Bool, true, false, cond, true≢false}
 use mathlib.Core.List.{List, [], _∷_, append-nil}
+use native.Mathlib.Nat.{sub-zero}
 use native.Mathlib.Omega.{arith}
+use borrow.Author.Tests.{le-leb}
 use lib.Dec.{lit≤}
-use lib.ListN.{length}
+use lib.ListN.{length, getD}
 use Rattle.code.specs.Kinds.{kindOf}
 use Rattle.code.specs.Rows.{rowAt}
 use Rattle.command.specs.Read.{read}
@@ -14,13 +16,16 @@ use Rattle.settings.specs.Laws.{Sound}
 use Rattle.settings.proofs.Sent.{answers-short}
 use Rattle.sender.specs.Item.{wanted}
 use Rattle.agree.proofs.Length.{item-length, items-length}
-use Rattle.linebox.specs.Names.{Case, Kind, Wanted, Connection, Mode1, Mode4, Mode10, Mode11, Out, Nothing, One, Two, Finished, State, Stream, Host, Line, Tu}
 use Rattle.step.specs.State.{sound, withReader}
 use Rattle.step.specs.Step.{Step, sends, released, text, hosted, isRead, readAs, lined, tued, step}
 use Rattle.step.specs.Byte.{firstOf, secondOf}
 use Rattle.step.specs.Laws.{Parts, Few, mostFirst, mostSecond}
 use Rattle.step.proofs.Sent.{asked-few}
 use Rattle.step.proofs.Stays.{sound-parts}
+use Rattle.linebox.specs.Call.{call}
+use Rattle.linebox.specs.Ends.{fitsAt, Ends}
+use Rattle.linebox.proofs.Ending.{ends}
+use Rattle.demands.specs.Names.{Case, Kind, Wanted, Connection, Mode1, Mode4, Mode10, Mode11, Out, Nothing, One, Two, Finished, State, Stream, Host, Line, Tu}
 
 text-few : (k : Connection) (slash : Bool) (b : ℕ) → length (text k (released slash b)) ≤ 2
 text-few (Mode1 port speed) slash b = asked-few slash b
@@ -92,3 +97,16 @@ module _ (t : Stream) (s : State) (b : ℕ) (h : sound s ≡ true) where
   -- one byte never makes more than 40 codes or 40 host bytes
   pub forty : (length (step t s b .line) ≤ 40) × ((length (step t s b .host) ≤ 40) × (length (step t s b .tu) ≤ 40))
   forty = few-forty t (step t s b) (most t s b h)
+
+-- with room for the most that one byte makes, answer 1 never comes with nothing taken
+pub goes-on : (t : Stream) (s : State) (xs : List ℕ) (a b : ℕ) → mostFirst t ≤ a → mostSecond t ≤ b → call t s xs a b .answer ≡ 1 → 1 ≤ call t s xs a b .taken
+goes-on t s xs a b ra rb e = go (call t s xs a b .taken) (rw e at (ends t s xs a b))
+  where
+    go : (n : ℕ) → Ends t s xs a b 1 n → 1 ≤ n
+    go zero p =
+        let x = getD xs 0 0 in
+        let f : length (firstOf t (step t s x)) ≤ a = omega (arith, most-first t s x (p .state)) in
+        let g : length (secondOf t (step t s x)) ≤ b = omega (arith, most-second t s x (p .state)) in
+        let h : fitsAt t s xs a b 0 ≡ true = rw (sub-zero, sub-zero, le-leb _ _ f, le-leb _ _ g) in
+        absurd (true≢false (sym h ∙ p .next .1 .1))
+    go (suc n) p = omega arith
