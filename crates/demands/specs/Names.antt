@@ -10,7 +10,6 @@ pub use Rattle.command.specs.declared.Out.{Out}
 pub use Rattle.command.specs.declared.Out.the-variants.{Nothing, One, Two, Finished}
 pub use Rattle.settings.specs.declared.Settings.{Settings}
 pub use Rattle.settings.specs.declared.Connection.{Connection}
-pub use Rattle.settings.specs.declared.Connection.the-variants.{Mode1, Mode4, Mode10, Mode11}
 pub use Rattle.sender.specs.declared.Known.{Known}
 pub use Rattle.sender.specs.declared.Known.the-variants.{Is}
 pub use Rattle.sender.specs.declared.Known.the-variants as known
@@ -25,5 +24,8 @@ pub use Rattle.sender.specs.declared.Sender.{Sender}
 pub use Rattle.printer.specs.declared.Printer.{Printer}
 pub use Rattle.printer.specs.declared.Mark.{Mark}
 pub use Rattle.step.specs.declared.State.{State}
-pub use Rattle.step.specs.Stream.{Stream, Host, Line, Tu}
+pub use Rattle.step.specs.declared.Stream.{Stream}
+pub use Rattle.step.specs.declared.Stream.the-variants.{Host, Line, Tu}
+pub use Rattle.step.specs.declared.Route.{Route}
+pub use Rattle.step.specs.declared.Route.the-variants.{Dropped, ToPrinter, ToHost, ToTu}
 pub use Rattle.linebox.specs.declared.Called.{Called}

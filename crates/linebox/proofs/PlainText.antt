@@ -1,4 +1,4 @@
--- Text in mode 1 with nothing held, and TU codes in mode 4, are plain bytes.
+-- Text with nothing held, and TU codes, on a route to the printer are plain bytes.
 -- Assumes nothing.
 use Prim.Native.Nat.{ℕ, _+_, _-_, _≤_}
 use mathlib.Core.Path.{_≡_, refl, sym, ap, _∙_}
@@ -18,13 +18,13 @@ use Rattle.code.specs.Convert.{conversion}
 use Rattle.sender.specs.Item.{items, afterItems, wanted, wantedOf, incoming}
 use Rattle.sender.specs.Sends.{converted, asksNext, isSpecial, Run, sends, Sends}
 use Rattle.sender.specs.declared.Sent.{Sent}
-use Rattle.linebox.specs.Names.{Case, Connection, Mode1, Mode4, Mode10, Mode11, Settings, Sender, Asks, Text, Codes, One, State, Stream, Host, Tu, Ran}
+use Rattle.linebox.specs.Names.{Case, Route, Dropped, ToPrinter, ToHost, ToTu, Settings, Sender, Asks, Text, Codes, One, State, Stream, Host, Tu, Ran}
 use Rattle.step.specs.State.{sound, withReader, withSender, withIncoming}
 use Rattle.step.specs.Step.{Step, sends as sent, asked, text, released, hosted, hostStep, tued, tuStep, carried, step}
 use Rattle.linebox.specs.Call.{firstOf, secondOf, refuses, fits, Done, before, taking}
 use Rattle.linebox.specs.Plain.{isText}
 use Rattle.step.specs.Step.{caseOf}
-use Rattle.step.specs.Laws.{isMode1, isMode4}
+use Rattle.step.specs.Route.{route, isPrinter}
 use Rattle.sender.proofs.Sending.{run-within, run-none}
 use Rattle.linebox.specs.Call.{Runs}
 use Rattle.step.proofs.Stays.{sound-parts, parts-sound}
@@ -53,11 +53,11 @@ unmoved t s input old ok = record { new = []; within = omega arith; kept = ok; p
 
 -- Text.
 
-open-text : (k : Connection) (bs : List ℕ) → isMode1 k ≡ true → text k bs ≡ asked bs
-open-text (Mode1 port speed) bs h = refl
-open-text (Mode4 port speed) bs h = absurd (false≢true h)
-open-text Mode10 bs h = absurd (false≢true h)
-open-text Mode11 bs h = absurd (false≢true h)
+open-text : (k : Route) (bs : List ℕ) → isPrinter k ≡ true → text k bs ≡ asked bs
+open-text Dropped bs h = absurd (false≢true h)
+open-text ToPrinter bs h = refl
+open-text ToHost bs h = absurd (false≢true h)
+open-text ToTu bs h = absurd (false≢true h)
 
 -- with nothing held, any byte but `/` is text
 reads-text : (st : Stage) (values : List ℕ) (b : ℕ) → isText st ≡ true → eqb b 47 ≡ false → readAt st values b ≡ at stage.Text (One b)
@@ -79,17 +79,17 @@ texting-sound s x ok =
     let p = sound-parts s ok in
     parts-sound (texting s x) (record { held = p .held; stage = refl; eleven = refl })
 
-text-step : (s : State) (b : ℕ) → isMode1 (s .connection) ≡ true → isText (s .reader .stage) ≡ true → eqb b 47 ≡ false → hostStep s b ≡ sent (withReader s idle) (wantedOf (conversion b))
-text-step s b m h e = rw (reads-text (s .reader .stage) (s .reader .values) b h e, open-text (s .connection) (b ∷ []) m, append-nil)
+text-step : (s : State) (b : ℕ) → isPrinter (route (s .connection) Host) ≡ true → isText (s .reader .stage) ≡ true → eqb b 47 ≡ false → hostStep s b ≡ sent (withReader s idle) (wantedOf (conversion b))
+text-step s b m h e = rw (reads-text (s .reader .stage) (s .reader .values) b h e, open-text (route (s .connection) Host) (b ∷ []) m, append-nil)
 
-plain-text : (s : State) → isMode1 (s .connection) ≡ true → (x : Sender) (a : Asks) (b : ℕ) → asText a ≡ true → isSpecial a b ≡ false → Plain Host (s .settings) (λ y z. texting s y) x a b
+plain-text : (s : State) → isPrinter (route (s .connection) Host) ≡ true → (x : Sender) (a : Asks) (b : ℕ) → asText a ≡ true → isSpecial a b ≡ false → Plain Host (s .settings) (λ y z. texting s y) x a b
 plain-text s m x Text b h e =
     let u = text-step (texting s x) b m refl e in
     record { is-taken = refl; state = rw u; first = rw u; second = rw u }
 plain-text s m x (Codes case) b h e = absurd (false≢true h)
 
 -- the first byte of a run is read as if no field had ever been
-first-same : (s : State) (xs : List ℕ) (room more : ℕ) → isMode1 (s .connection) ≡ true → isText (s .reader .stage) ≡ true
+first-same : (s : State) (xs : List ℕ) (room more : ℕ) → isPrinter (route (s .connection) Host) ≡ true → isText (s .reader .stage) ≡ true
     → (sends (s .settings) (s .sender) Text true xs room .taken ≡ 0 → ⊥) → taking Host s xs room more ≡ taking Host (texting s (s .sender)) xs room more
 first-same s [] room more m h n = absurd (n refl)
 first-same s (b ∷ xs) room more m h n = go (eqb b 47) refl (leb (length (items (s .settings) (s .sender) (wantedOf (conversion b)))) room) refl n
@@ -104,7 +104,7 @@ first-same s (b ∷ xs) room more m h n = go (eqb b 47) refl (leb (length (items
         let u : hostStep s b ≡ hostStep (texting s (s .sender)) b = text-step s b m h e ∙ sym (text-step (texting s (s .sender)) b m refl e) in
         rw (u, fits)
 
-module _ (s : State) (ok : sound s ≡ true) (m : isMode1 (s .connection) ≡ true) (h : isText (s .reader .stage) ≡ true) (input old now : List ℕ) (x : Sent)
+module _ (s : State) (ok : sound s ≡ true) (m : isPrinter (route (s .connection) Host) ≡ true) (h : isText (s .reader .stage) ≡ true) (input old now : List ℕ) (x : Sent)
     (f : Sends (sends (s .settings) (s .sender) Text true input (length old)) old now x) where
   abbrev d : Run
   d = sends (s .settings) (s .sender) Text true input (length old)
@@ -137,16 +137,16 @@ module _ (s : State) (ok : sound s ≡ true) (m : isMode1 (s .connection) ≡ tr
 abbrev pub coding : State → Sender → Asks → State
 coding s x a = withSender (withIncoming s (caseOf a)) x
 
-open-codes : (k : Connection) (s : State) (c : ℕ) → isMode4 k ≡ true → tued k s c ≡ carried s c
-open-codes (Mode1 port speed) s c h = absurd (false≢true h)
-open-codes (Mode4 port speed) s c h = refl
-open-codes Mode10 s c h = absurd (false≢true h)
-open-codes Mode11 s c h = absurd (false≢true h)
+open-codes : (k : Route) (s : State) (c : ℕ) → isPrinter k ≡ true → tued k s c ≡ carried s c
+open-codes Dropped s c h = absurd (false≢true h)
+open-codes ToPrinter s c h = refl
+open-codes ToHost s c h = absurd (false≢true h)
+open-codes ToTu s c h = absurd (false≢true h)
 
-plain-codes : (s : State) → isMode4 (s .connection) ≡ true → (x : Sender) (a : Asks) (b : ℕ) → asCodes a ≡ true → isSpecial a b ≡ false → Plain Tu (s .settings) (coding s) x a b
+plain-codes : (s : State) → isPrinter (route (s .connection) Tu) ≡ true → (x : Sender) (a : Asks) (b : ℕ) → asCodes a ≡ true → isSpecial a b ≡ false → Plain Tu (s .settings) (coding s) x a b
 plain-codes s m x Text b h e = absurd (false≢true h)
 plain-codes s m x (Codes case) b h e =
-    let u = open-codes (s .connection) (coding s x (Codes case)) b m in
+    let u = open-codes (route (s .connection) Tu) (coding s x (Codes case)) b m in
     record { is-taken = e; state = rw u; first = rw u; second = refl }
 
 coding-sound : (s : State) (x : Sender) (a : Asks) → sound s ≡ true → sound (coding s x a) ≡ true
@@ -154,7 +154,7 @@ coding-sound s x a ok =
     let p = sound-parts s ok in
     parts-sound (coding s x a) (record { held = p .held; stage = p .stage; eleven = p .eleven })
 
-pub codes-run : (s : State) (ok : sound s ≡ true) (m : isMode4 (s .connection) ≡ true) (input old now : List ℕ) (x : Sent)
+pub codes-run : (s : State) (ok : sound s ≡ true) (m : isPrinter (route (s .connection) Tu) ≡ true) (input old now : List ℕ) (x : Sent)
     → Sends (sends (s .settings) (s .sender) (Codes (s .incoming)) true input (length old)) old now x
     → Runs Tu s input old now (record { state = coding s (x .sender) (x .asks); taken = x .taken; count = x .count })
 codes-run s ok m input old now x f =

@@ -14,11 +14,11 @@ use Rattle.command.specs.declared.Form.the-variants as form
 use Rattle.command.specs.declared.Stage.{Stage}
 use Rattle.command.specs.declared.Stage.the-variants.{Held, Text, Fields}
 use Rattle.settings.specs.Table.{soundString, idOf}
-use Rattle.settings.specs.Command.{commanded}
+use Rattle.settings.specs.Command.{link, commanded}
 use Rattle.sender.specs.declared.Known.the-variants.{Is}
 use Rattle.sender.specs.declared.Column.the-variants.{At}
 use Rattle.sender.specs.declared.Last.the-variants as last
-use Rattle.linebox.specs.Names.{Letters, Figures, Connection, Mode1, Mode4, State, Stream, Host, Line, Tu}
+use Rattle.linebox.specs.Names.{Letters, Figures, Connection, State, Stream, Host, Line, Tu}
 use Rattle.step.specs.State.{sound}
 use Rattle.step.specs.Step.{step}
 use Rattle.step.specs.Byte.{firstOf, secondOf}
@@ -27,7 +27,7 @@ use Rattle.step.specs.Laws.{mostFirst, mostSecond}
 -- an ending is due, and each CR of it is followed by LTRS
 abbrev due : Connection → List ℕ → Stage → State
 due c string stage = record {
-  settings = record { endings = true; limit = 10; onspace = false; onreturn = true; filter = false; reports = true; string = string };
+  settings = record { values = 1 ∷ 10 ∷ 0 ∷ 1 ∷ 0 ∷ 1 ∷ []; string = string };
   connection = c;
   sender = record { held = record { case = Is Letters; column = At 10 }; last = last.Other };
   reading = Letters;
@@ -47,25 +47,25 @@ pub record Reached (t : Stream) (s : State) (b n m : ℕ) : Type 0 where
   pub second : length (secondOf t (step t s b)) ≡ m
 
 -- a held `/` and a letter
-pub text : Reached Host (due (Mode1 1 60) shifting Held) 65 (mostFirst Host) 0
+pub text : Reached Host (due (link 1 1 60) shifting Held) 65 (mostFirst Host) 0
 unfolding soundString conversion kindOf rowAt
 text = record { sound = refl; first = refl; second = refl }
 
 -- string 90 read
-pub answer : Reached Host (due (Mode1 1 60) wide (Fields verb.Read form.Digits 1)) 13 0 (mostSecond Host)
+pub answer : Reached Host (due (link 1 1 60) wide (Fields verb.Read form.Digits 1)) 13 0 (mostSecond Host)
 unfolding soundString commanded idOf digits
 answer = record { sound = refl; first = refl; second = refl }
 
 -- a figure from the TU
-pub figure : Reached Tu (due (Mode4 1 60) shifting Text) 23 (mostFirst Tu) 0
+pub figure : Reached Tu (due (link 4 1 60) shifting Text) 23 (mostFirst Tu) 0
 unfolding soundString kindOf rowAt
 figure = record { sound = refl; first = refl; second = refl }
 
 -- a line code to the host, and one to the TU
-pub to-host : Reached Line (due (Mode1 1 60) wide Text) 3 (mostFirst Line) 0
+pub to-host : Reached Line (due (link 1 1 60) wide Text) 3 (mostFirst Line) 0
 unfolding soundString kindOf rowAt
 to-host = record { sound = refl; first = refl; second = refl }
 
-pub to-tu : Reached Line (due (Mode4 1 60) wide Text) 3 0 (mostSecond Line)
+pub to-tu : Reached Line (due (link 4 1 60) wide Text) 3 0 (mostSecond Line)
 unfolding soundString
 to-tu = record { sound = refl; first = refl; second = refl }

@@ -8,13 +8,15 @@ pub use Rattle.command.specs.declared.Out.{Out}
 pub use Rattle.command.specs.declared.Out.the-variants.{Nothing, One, Two, Finished}
 pub use Rattle.settings.specs.declared.Settings.{Settings}
 pub use Rattle.settings.specs.declared.Connection.{Connection}
-pub use Rattle.settings.specs.declared.Connection.the-variants.{Mode1, Mode4, Mode10, Mode11}
 pub use Rattle.settings.specs.declared.Stored.{Stored}
 pub use Rattle.settings.specs.declared.Outcome.{Outcome}
 pub use Rattle.sender.specs.declared.Wanted.{Wanted}
 pub use Rattle.sender.specs.declared.Sender.{Sender}
 pub use Rattle.step.specs.declared.State.{State}
-pub use Rattle.step.specs.Stream.{Stream, Host, Line, Tu}
+pub use Rattle.step.specs.declared.Stream.{Stream}
+pub use Rattle.step.specs.declared.Stream.the-variants.{Host, Line, Tu}
+pub use Rattle.step.specs.declared.Route.{Route}
+pub use Rattle.step.specs.declared.Route.the-variants.{Dropped, ToPrinter, ToHost, ToTu}
 pub use Rattle.linebox.specs.declared.Answer.{Answer}
 pub use Rattle.linebox.specs.declared.Answer.the-variants.{All, NoRoom, NoCode, Unsound}
 pub use Rattle.linebox.specs.declared.Called.{Called}

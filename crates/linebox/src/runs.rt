@@ -1,17 +1,18 @@
-// Runs of plain bytes, written straight into the free part of the line buffer: text in mode 1, TU codes in mode 4.
+// Runs of plain bytes, written straight into the free part of the line buffer: text or TU codes whose route is to the printer.
 ghost use mathlib.Core.Path.{_≡_};
 ghost use mathlib.Core.Bool.{true};
 ghost use Rattle.linebox.specs.Names.{Host as Names·Host, Tu as Names·Tu};
 ghost use Rattle.step.specs.State.{sound};
 ghost use Rattle.linebox.specs.Call.{Runs};
 ghost use Rattle.linebox.specs.Plain.{isText};
-ghost use Rattle.step.specs.Laws.{isMode1, isMode4};
+ghost use Rattle.step.specs.Route.{route, isPrinter};
 use crate::Ran;
 use command::Reader;
 use command::Stage;
 use sender::Asks;
-use settings::Connection;
 use step::State;
+use step::Stream;
+use step::routes::prints;
 use step::sends::case_of;
 use step::states::with_incoming;
 use step::states::with_reader;
@@ -33,30 +34,6 @@ fn is_text(stage: Stage) -> bool
     }
 }
 
-// Whether host text goes to the line.
-fn is_mode1(connection: Connection) -> bool
-    ensures { λ r. ⌜ r ≡ isMode1 connection ⌝ }
-{
-    match connection {
-        Connection::Mode1(_, _) => true,
-        Connection::Mode4(_, _) => false,
-        Connection::Mode10 => false,
-        Connection::Mode11 => false,
-    }
-}
-
-// Whether TU codes go to the printer.
-fn is_mode4(connection: Connection) -> bool
-    ensures { λ r. ⌜ r ≡ isMode4 connection ⌝ }
-{
-    match connection {
-        Connection::Mode1(_, _) => false,
-        Connection::Mode4(_, _) => true,
-        Connection::Mode10 => false,
-        Connection::Mode11 => false,
-    }
-}
-
 // No byte taken.
 fn unmoved(s: State) -> Ran
     ensures { λ r. ⌜ r ≡ record { state = s; taken = 0; count = 0 } ⌝ }
@@ -68,9 +45,9 @@ fn unmoved(s: State) -> Ran
     }
 }
 
-// Plain text to a line in mode 1.
+// Plain text to the printer.
 fn run_text(s: State, input: &[u8], line: &mut [u8]) -> Ran
-    requires { ⌜ (sound s ≡ true) × (isMode1 (s .connection) ≡ true) × (isText (s .reader .stage) ≡ true) ⌝ }
+    requires { ⌜ (sound s ≡ true) × (isPrinter (route (s .connection) Names·Host) ≡ true) × (isText (s .reader .stage) ≡ true) ⌝ }
     ensures { λ r. ⌜ Runs Names·Host s (now (input .entry)) (now (line .entry)) (now (line .exit)) r ⌝ }
 {
     let settings = s.settings;
@@ -95,7 +72,7 @@ pub fn take_text(s: State, input: &[u8], line: &mut [u8]) -> Ran
     let connection = s.connection;
     let reader = s.reader;
     let stage = reader.stage;
-    if is_mode1(connection) {
+    if prints(connection, Stream::Host) {
         if is_text(stage) {
             return run_text(s, input, line);
         }
@@ -103,9 +80,9 @@ pub fn take_text(s: State, input: &[u8], line: &mut [u8]) -> Ran
     unmoved(s)
 }
 
-// TU codes to the printer in mode 4.
+// TU codes to the printer.
 fn run_codes(s: State, codes: &[u8], line: &mut [u8]) -> Ran
-    requires { ⌜ (sound s ≡ true) × (isMode4 (s .connection) ≡ true) ⌝ }
+    requires { ⌜ (sound s ≡ true) × (isPrinter (route (s .connection) Names·Tu) ≡ true) ⌝ }
     ensures { λ r. ⌜ Runs Names·Tu s (now (codes .entry)) (now (line .entry)) (now (line .exit)) r ⌝ }
 {
     let settings = s.settings;
@@ -127,7 +104,7 @@ pub fn take_codes(s: State, codes: &[u8], line: &mut [u8]) -> Ran
     ensures { λ r. ⌜ Runs Names·Tu s (now (codes .entry)) (now (line .entry)) (now (line .exit)) r ⌝ }
 {
     let connection = s.connection;
-    if is_mode4(connection) {
+    if prints(connection, Stream::Tu) {
         return run_codes(s, codes, line);
     }
     unmoved(s)

@@ -6,19 +6,13 @@ use mathlib.Core.Bool.{Bool, true, false}
 use mathlib.Core.List.{List, [], _∷_, _++_}
 use lib.ListN.{set, replicate}
 use mir.Val.{boolByte}
-use Rattle.spelling.specs.Names.{Stage, Text, Swallow, Held, Begun, Lettered, Typed, Fields, Discard, Connection, Mode1, Mode4, Mode10, Mode11, Column, At, State}
+use Rattle.spelling.specs.Names.{Stage, Text, Swallow, Held, Begun, Lettered, Typed, Fields, Discard, Column, At, State}
 use Rattle.spelling.specs.Names.column
 use Rattle.spelling.specs.Spelling.{part, bit, caseByte, knownByte, lastByte, settingsBytes, connectionBytes, columnBytes, stageBytes, spare, spelt, puts}
 
 pub as-bit : (b : Bool) → boolByte b ≡ bit b
 as-bit true = refl
 as-bit false = refl
-
-pub three : (c : Connection) → part (connectionBytes c) 0 3 ≡ connectionBytes c
-three (Mode1 port speed) = refl
-three (Mode4 port speed) = refl
-three Mode10 = refl
-three Mode11 = refl
 
 pub two : (c : Column) → part (columnBytes c) 0 2 ≡ columnBytes c
 two column.Unknown = refl
@@ -39,20 +33,20 @@ module _ (s : State) where
   abbrev pub sender : List ℕ → List ℕ
   sender y = knownByte (s .sender .held .case) ∷ y ++ lastByte (s .sender .last) ∷ []
 
-  abbrev filled : List ℕ → List ℕ → List ℕ → List ℕ
-  filled x y z =
-      let front = puts (puts (puts (replicate 128 0) 0 (settingsBytes (s .settings))) 14 x) 17 (sender y) in
+  abbrev filled : List ℕ → List ℕ → List ℕ
+  filled y z =
+      let front = puts (puts (puts (replicate 128 0) 0 (settingsBytes (s .settings))) 14 (connectionBytes (s .connection))) 17 (sender y) in
       puts (puts (set (set front 21 (caseByte (s .reading))) 22 (caseByte (s .incoming))) 23 z) 27 (part (s .reader .values) 0 11)
 
-  abbrev pub laid : List ℕ → List ℕ → List ℕ → List ℕ
-  laid x y z = settingsBytes (s .settings) ++ (x ++ (sender y ++ (caseByte (s .reading) ∷ caseByte (s .incoming) ∷ (z ++ part (s .reader .values) 0 11) ++ spare)))
+  abbrev pub laid : List ℕ → List ℕ → List ℕ
+  laid y z = settingsBytes (s .settings) ++ (connectionBytes (s .connection) ++ (sender y ++ (caseByte (s .reading) ∷ caseByte (s .incoming) ∷ (z ++ part (s .reader .values) 0 11) ++ spare)))
 
   abbrev pub bytes : List ℕ
-  bytes = filled (connectionBytes (s .connection)) (columnBytes (s .sender .held .column)) (stageBytes (s .reader .stage))
+  bytes = filled (columnBytes (s .sender .held .column)) (stageBytes (s .reader .stage))
 
   pub filled-spelt : bytes ≡ spelt s
   unfolding spelt
-  filled-spelt = go _ _ _ (three (s .connection)) (two (s .sender .held .column)) (four (s .reader .stage))
+  filled-spelt = go _ _ (two (s .sender .held .column)) (four (s .reader .stage))
     where
-      go : (x y z : List ℕ) → part x 0 3 ≡ x → part y 0 2 ≡ y → part z 0 4 ≡ z → filled x y z ≡ laid x y z
-      go x y z e f g = rw (← e, ← f, ← g)
+      go : (y z : List ℕ) → part y 0 2 ≡ y → part z 0 4 ≡ z → filled y z ≡ laid y z
+      go y z f g = rw (← f, ← g)

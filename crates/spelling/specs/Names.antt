@@ -10,7 +10,6 @@ pub use Rattle.command.specs.declared.Stage.the-variants.{Text, Swallow, Held, 
 pub use Rattle.command.specs.declared.Reader.{Reader}
 pub use Rattle.settings.specs.declared.Settings.{Settings}
 pub use Rattle.settings.specs.declared.Connection.{Connection}
-pub use Rattle.settings.specs.declared.Connection.the-variants.{Mode1, Mode4, Mode10, Mode11}
 pub use Rattle.sender.specs.declared.Known.{Known}
 pub use Rattle.sender.specs.declared.Known.the-variants.{Is}
 pub use Rattle.sender.specs.declared.Known.the-variants as known

@@ -4,7 +4,7 @@ use mathlib.Core.Bool.{Bool, true, false, cond, _&&_}
 use mathlib.Core.List.{List, [], _∷_, _++_}
 use lib.Dec.{eqb}
 use lib.ListN.{getD, set, replicate}
-use Rattle.spelling.specs.Names.{Case, Letters, Figures, Verb, Write, Read, Other, Form, Empty, Digits, Ex, Stage, Text, Swallow, Held, Begun, Lettered, Typed, Fields, Discard, Reader, Settings, Connection, Mode1, Mode4, Mode10, Mode11, Known, Is, Column, At, Last, Shift, Sender, State, Loaded}
+use Rattle.spelling.specs.Names.{Case, Letters, Figures, Verb, Write, Read, Other, Form, Empty, Digits, Ex, Stage, Text, Swallow, Held, Begun, Lettered, Typed, Fields, Discard, Reader, Settings, Connection, Known, Is, Column, At, Last, Shift, Sender, State, Loaded}
 use Rattle.spelling.specs.Names.known
 use Rattle.spelling.specs.Names.column
 use Rattle.spelling.specs.Names.last
@@ -42,16 +42,13 @@ formByte Empty = 0
 formByte Digits = 1
 formByte Ex = 2
 
--- 0 to 13: options 49, 50, 70, 71, 72 and 74, and string 90
+-- 0 to 5 options 49, 50, 70, 71, 72 and 74, and 6 to 13 string 90
 abbrev pub settingsBytes : Settings → List ℕ
-settingsBytes o = bit (o .endings) ∷ o .limit ∷ bit (o .onspace) ∷ bit (o .onreturn) ∷ bit (o .filter) ∷ bit (o .reports) ∷ part (o .string) 0 8
+settingsBytes o = part (o .values) 0 6 ++ part (o .string) 0 8
 
 -- 14 to 16: the connection's mode, port and speed
 abbrev pub connectionBytes : Connection → List ℕ
-connectionBytes (Mode1 port speed) = 1 ∷ port ∷ speed ∷ []
-connectionBytes (Mode4 port speed) = 4 ∷ port ∷ speed ∷ []
-connectionBytes Mode10 = 10 ∷ 0 ∷ 0 ∷ []
-connectionBytes Mode11 = 11 ∷ 0 ∷ 0 ∷ []
+connectionBytes c = c .mode ∷ c .port ∷ c .speed ∷ []
 
 -- 18 and 19: whether the column is known, and the column
 abbrev pub columnBytes : Column → List ℕ
@@ -106,18 +103,10 @@ abbrev pub formOf : ℕ → Form
 formOf n = cond (eqb n 1) Digits (cond (eqb n 2) Ex Empty)
 
 abbrev pub settingsOf : List ℕ → Settings
-settingsOf b = record {
-  endings = eqb (getD b 0 0) 1;
-  limit = getD b 1 0;
-  onspace = eqb (getD b 2 0) 1;
-  onreturn = eqb (getD b 3 0) 1;
-  filter = eqb (getD b 4 0) 1;
-  reports = eqb (getD b 5 0) 1;
-  string = part b 6 8;
-}
+settingsOf b = record { values = part b 0 6; string = part b 6 8 }
 
-abbrev pub connectionOf : ℕ → ℕ → ℕ → Connection
-connectionOf mode port speed = cond (eqb mode 1) (Mode1 port speed) (cond (eqb mode 4) (Mode4 port speed) (cond (eqb mode 10) Mode10 Mode11))
+abbrev pub connectionOf : List ℕ → Connection
+connectionOf b = record { mode = getD b 14 0; port = getD b 15 0; speed = getD b 16 0 }
 
 abbrev pub senderOf : List ℕ → Sender
 senderOf b = record { held = record { case = knownOf (getD b 17 0); column = columnOf (getD b 18 0) (getD b 19 0) }; last = lastOf (getD b 20 0) }
@@ -135,7 +124,7 @@ readerOf b = record { stage = stageOf (getD b 23 0) (getD b 24 0) (getD b 25 0) 
 unfoldable pub stateOf : List ℕ → State
 stateOf b = record {
   settings = settingsOf b;
-  connection = connectionOf (getD b 14 0) (getD b 15 0) (getD b 16 0);
+  connection = connectionOf b;
   sender = senderOf b;
   reading = caseOf (getD b 21 0);
   incoming = caseOf (getD b 22 0);

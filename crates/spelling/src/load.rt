@@ -79,18 +79,6 @@ fn form_of(n: u8) -> Form
     }
 }
 
-// The connection of three bytes.
-fn connection_of(mode: u8, port: u8, speed: u8) -> Connection
-    ensures { λ r. ⌜ r ≡ connectionOf mode port speed ⌝ }
-{
-    match mode {
-        1 => Connection::Mode1(port, speed),
-        4 => Connection::Mode4(port, speed),
-        10 => Connection::Mode10,
-        _ => Connection::Mode11,
-    }
-}
-
 // The stages that the first byte alone tells.
 fn plain_stage(n: u8) -> Stage
     ensures { λ r. ⌜ r ≡ plainStage n ⌝ }
@@ -121,13 +109,19 @@ fn settings_of(b: [u8; 128]) -> Settings
     ensures { λ r. ⌜ r ≡ settingsOf b ⌝ }
 {
     Settings {
-        endings: b[0] == 1,
-        limit: b[1],
-        onspace: b[2] == 1,
-        onreturn: b[3] == 1,
-        filter: b[4] == 1,
-        reports: b[5] == 1,
+        values: [b[0], b[1], b[2], b[3], b[4], b[5]],
         string: [b[6], b[7], b[8], b[9], b[10], b[11], b[12], b[13]],
+    }
+}
+
+// The connection, from offset 14 on.
+fn connection_of(b: [u8; 128]) -> Connection
+    ensures { λ r. ⌜ r ≡ connectionOf b ⌝ }
+{
+    Connection {
+        mode: b[14],
+        port: b[15],
+        speed: b[16],
     }
 }
 
@@ -179,7 +173,7 @@ fn state_of(b: [u8; 128]) -> State
 {
     State {
         settings: settings_of(b),
-        connection: connection_of(b[14], b[15], b[16]),
+        connection: connection_of(b),
         sender: sender_of(b),
         reading: case_of(b[21]),
         incoming: case_of(b[22]),

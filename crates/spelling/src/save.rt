@@ -76,18 +76,6 @@ fn form_byte(f: Form) -> u8
     }
 }
 
-// The connection's mode, port and speed.
-fn connection_bytes(c: Connection) -> [u8; 3]
-    ensures { λ r. ⌜ r ≡ connectionBytes c ⌝ }
-{
-    match c {
-        Connection::Mode1(port, speed) => [1, port, speed],
-        Connection::Mode4(port, speed) => [4, port, speed],
-        Connection::Mode10 => [10, 0, 0],
-        Connection::Mode11 => [11, 0, 0],
-    }
-}
-
 // The command reader's stage, and what it knows of the command.
 fn stage_bytes(s: Stage) -> [u8; 4]
     ensures { λ r. ⌜ r ≡ stageBytes s ⌝ }
@@ -109,13 +97,14 @@ fn with_settings(b: [u8; 128], s: Settings) -> [u8; 128]
     ensures { λ r. ⌜ r ≡ puts b 0 (settingsBytes s) ⌝ }
 {
     let mut bytes = b;
+    let values = s.values;
     let string = s.string;
-    bytes[0] = s.endings as u8;
-    bytes[1] = s.limit;
-    bytes[2] = s.onspace as u8;
-    bytes[3] = s.onreturn as u8;
-    bytes[4] = s.filter as u8;
-    bytes[5] = s.reports as u8;
+    bytes[0] = values[0];
+    bytes[1] = values[1];
+    bytes[2] = values[2];
+    bytes[3] = values[3];
+    bytes[4] = values[4];
+    bytes[5] = values[5];
     bytes[6] = string[0];
     bytes[7] = string[1];
     bytes[8] = string[2];
@@ -132,10 +121,9 @@ fn with_connection(b: [u8; 128], c: Connection) -> [u8; 128]
     ensures { λ r. ⌜ r ≡ puts b 14 (connectionBytes c) ⌝ }
 {
     let mut bytes = b;
-    let part = connection_bytes(c);
-    bytes[14] = part[0];
-    bytes[15] = part[1];
-    bytes[16] = part[2];
+    bytes[14] = c.mode;
+    bytes[15] = c.port;
+    bytes[16] = c.speed;
     bytes
 }
 

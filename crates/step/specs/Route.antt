@@ -1,5 +1,5 @@
 -- Where the bytes of a stream go in a mode.
-use mathlib.Core.Bool.{cond}
+use mathlib.Core.Bool.{Bool, true, false, cond}
 use lib.Dec.{eqb}
 use Rattle.step.specs.Names.{Connection, Stream, Host, Line, Tu, Route, Dropped, ToPrinter, ToHost, ToTu}
 
@@ -8,3 +8,9 @@ unfoldable pub route : Connection → Stream → Route
 route c Host = cond (eqb (c .mode) 1) ToPrinter Dropped
 route c Line = cond (eqb (c .mode) 1) ToHost (cond (eqb (c .mode) 4) ToTu Dropped)
 route c Tu = cond (eqb (c .mode) 4) ToPrinter Dropped
+
+abbrev pub isPrinter : Route → Bool
+isPrinter Dropped = false
+isPrinter ToPrinter = true
+isPrinter ToHost = false
+isPrinter ToTu = false

@@ -1,6 +1,6 @@
 // Where the bytes of a stream go in a mode.
 ghost use mathlib.Core.Path.{_≡_};
-ghost use Rattle.step.specs.Route.{route};
+ghost use Rattle.step.specs.Route.{route, isPrinter};
 use crate::Route;
 use crate::Stream;
 use settings::Connection;
@@ -24,5 +24,17 @@ pub fn route(c: Connection, t: Stream) -> Route
             4 => Route::ToPrinter,
             _ => Route::Dropped,
         },
+    }
+}
+
+// Whether the bytes of a stream go to the printer.
+pub fn prints(c: Connection, t: Stream) -> bool
+    ensures { λ r. ⌜ r ≡ isPrinter (route c t) ⌝ }
+{
+    match route(c, t) {
+        Route::Dropped => false,
+        Route::ToPrinter => true,
+        Route::ToHost => false,
+        Route::ToTu => false,
     }
 }

@@ -1,4 +1,4 @@
--- `linebox::runs::take_codes` meets its contract: in mode 4 codes run, and else none is taken.
+-- `linebox::runs::take_codes` meets its contract: on their route to the printer codes run, and else none is taken.
 -- Assumes nothing.
 use denote.Ref.{now}
 use Rattle.linebox.specs.Names.{Tu}
@@ -7,8 +7,8 @@ use borrow.Author.Needs.{needs}
 use Rattle.linebox.proofs.runs.take_codes.Statement.{statement}
 use Rattle.linebox.proofs.runs.take_codes.Tie as tie
 
-is-mode4-requires : tie.Need-is-mode4-requires
-is-mode4-requires c κs = search needs
+prints-requires : tie.Need-prints-requires
+prints-requires c κs = search needs
 
 run-codes-requires : tie.Need-run-codes-requires
 run-codes-requires c κs = search needs
@@ -30,4 +30,4 @@ returns-2 c =
 pub take-codes-spec : {M : Type 1} → statement M
 take-codes-spec =
     tie.close
-    (tie.spec is-mode4-requires run-codes-requires same-length returns unmoved-requires returns-2)
+    (tie.spec prints-requires run-codes-requires same-length returns unmoved-requires returns-2)

@@ -1,4 +1,4 @@
--- `linebox::runs::take_text` meets its contract: in mode 1 with nothing held text runs, and else no byte is taken.
+-- `linebox::runs::take_text` meets its contract: on its route to the printer and with nothing held text runs, and else no byte is taken.
 -- Assumes nothing.
 use denote.Ref.{now}
 use Rattle.linebox.specs.Names.{Host}
@@ -7,8 +7,8 @@ use borrow.Author.Needs.{needs}
 use Rattle.linebox.proofs.runs.take_text.Statement.{statement}
 use Rattle.linebox.proofs.runs.take_text.Tie as tie
 
-is-mode1-requires : tie.Need-is-mode1-requires
-is-mode1-requires c κs = search needs
+prints-requires : tie.Need-prints-requires
+prints-requires c κs = search needs
 
 is-text-requires : tie.Need-is-text-requires
 is-text-requires c κs = search needs
@@ -34,7 +34,7 @@ pub take-text-spec : {M : Type 1} → statement M
 take-text-spec =
     tie.close
     (tie.spec
-    is-mode1-requires
+    prints-requires
     is-text-requires
     run-text-requires
     same-length

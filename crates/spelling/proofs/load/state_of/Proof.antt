@@ -1,21 +1,12 @@
--- `spelling::load::state_of` meets its contract.
+-- `spelling::load::state_of` meets its contract: each field is read from its offset.
 -- Assumes nothing.
-use Rattle.spelling.specs.Spelling.{stateOf}
 use borrow.Author.Needs.{needs}
+use Rattle.spelling.specs.Spelling.{stateOf}
 use Rattle.spelling.proofs.load.state_of.Statement.{statement}
 use Rattle.spelling.proofs.load.state_of.Tie as tie
 
 settings-of-requires : tie.Need-settings-of-requires
 settings-of-requires c κs = search needs
-
-array-read-connection-of : tie.Need-array-read-connection-of
-array-read-connection-of c = search needs
-
-array-read-connection-of-2 : tie.Need-array-read-connection-of-2
-array-read-connection-of-2 c = search needs
-
-array-read-connection-of-3 : tie.Need-array-read-connection-of-3
-array-read-connection-of-3 c = search needs
 
 connection-of-requires : tie.Need-connection-of-requires
 connection-of-requires c κs = search needs
@@ -47,9 +38,6 @@ state-of-spec =
     tie.close
     (tie.spec
     settings-of-requires
-    array-read-connection-of
-    array-read-connection-of-2
-    array-read-connection-of-3
     connection-of-requires
     sender-of-requires
     array-read-case-of

@@ -26,7 +26,7 @@ with-values-requires c κs = search needs
 returns : tie.Need-returns
 returns c =
     rw (c .with-values .ensures, c .before .with-stage .ensures, c .before .before .with-cases .ensures, c .before .before .before .with-sender .ensures, c .before .before .before .before .with-connection .ensures, c .before .before .before .before .before .with-settings .ensures)
-    (filled-spelt (c .before .before .before .before .before .before .before .before .before .before .args .s))
+    (filled-spelt (c .before .before .before .before .before .before .before .before .before .before .before .args .s))
 
 pub save-spec : {M : Type 1} → statement M
 save-spec =
