@@ -13,6 +13,7 @@ use Rattle.code.specs.Kinds.{kindOf}
 use Rattle.code.specs.Rows.{rowAt}
 use Rattle.command.specs.Read.{read}
 use Rattle.settings.specs.Laws.{Sound}
+use Rattle.settings.specs.Options.{reports, endingCodes}
 use Rattle.settings.proofs.Sent.{answers-short}
 use Rattle.sender.specs.Item.{wanted}
 use Rattle.agree.proofs.Length.{item-length, items-length}
@@ -35,6 +36,7 @@ text-few Mode11 slash b = lit≤ tt
 
 -- at most two items
 sends-few : (s : State) (ws : List Wanted) → Sound (s .settings) (s .connection) → length ws ≤ 2 → Few Host (sends s ws)
+unfolding endingCodes
 sends-few s ws h few = record { line = items-length (s .settings) (h .settings) (h .places) (s .sender) ws few; host = lit≤ tt; tu = lit≤ tt }
 
 hosted-few : (s : State) (fields : List ℕ) (out : Out) → length fields ≡ 11 → Sound (s .settings) (s .connection) → Few Host (hosted s fields out)
@@ -51,12 +53,13 @@ read-few reports case k c = go (isRead reports k)
     go false = lit≤ tt
 
 lined-few : (k : Connection) (s : State) (c : ℕ) → Few Line (lined k s c)
-lined-few (Mode1 port speed) s c = record { line = lit≤ tt; host = read-few (s .settings .reports) (s .reading) (kindOf c) c; tu = lit≤ tt }
+lined-few (Mode1 port speed) s c = record { line = lit≤ tt; host = read-few (reports (s .settings)) (s .reading) (kindOf c) c; tu = lit≤ tt }
 lined-few (Mode4 port speed) s c = record { line = lit≤ tt; host = lit≤ tt; tu = lit≤ tt }
 lined-few Mode10 s c = record { line = lit≤ tt; host = lit≤ tt; tu = lit≤ tt }
 lined-few Mode11 s c = record { line = lit≤ tt; host = lit≤ tt; tu = lit≤ tt }
 
 tued-few : (k : Connection) (s : State) (c : ℕ) → Sound (s .settings) (s .connection) → Few Tu (tued k s c)
+unfolding endingCodes
 tued-few (Mode1 port speed) s c h = record { line = lit≤ tt; host = lit≤ tt; tu = lit≤ tt }
 tued-few (Mode4 port speed) s c h = record { line = rw append-nil (item-length (s .settings) (h .settings) (h .places) (s .sender) (wanted (s .incoming) c)); host = lit≤ tt; tu = lit≤ tt }
 tued-few Mode10 s c h = record { line = lit≤ tt; host = lit≤ tt; tu = lit≤ tt }

@@ -2,7 +2,7 @@
 -- Assumes nothing.
 use Prim.Native.Nat.{ℕ}
 use mathlib.Core.Path.{_≡_, refl}
-use mathlib.Core.Bool.{true, false}
+use mathlib.Core.Bool.{true}
 use mathlib.Core.List.{List, [], _∷_}
 use lib.ListN.{length}
 use Rattle.code.specs.Rows.{rowAt}
@@ -14,26 +14,34 @@ use Rattle.command.specs.declared.Form.the-variants as form
 use Rattle.command.specs.declared.Stage.{Stage}
 use Rattle.command.specs.declared.Stage.the-variants.{Held, Text, Fields}
 use Rattle.settings.specs.Table.{soundString, idOf}
-use Rattle.settings.specs.Command.{link, commanded}
+use Rattle.settings.specs.Options.{endings, limit, onspace, onreturn, filter, reports, endingCodes}
+use Rattle.settings.specs.Command.{commanded}
 use Rattle.sender.specs.declared.Known.the-variants.{Is}
 use Rattle.sender.specs.declared.Column.the-variants.{At}
 use Rattle.sender.specs.declared.Last.the-variants as last
-use Rattle.linebox.specs.Names.{Letters, Figures, Connection, State, Stream, Host, Line, Tu}
-use Rattle.step.specs.State.{sound}
+use Rattle.linebox.specs.Names.{Letters, Figures, State, Stream, Host, Line, Tu}
+use Rattle.step.specs.State.{freshBox, sound, withReader, withSender, withIncoming, withStored}
 use Rattle.step.specs.Step.{step}
 use Rattle.step.specs.Byte.{firstOf, secondOf}
 use Rattle.step.specs.Laws.{mostFirst, mostSecond}
 
--- an ending is due, and each CR of it is followed by LTRS
-abbrev due : Connection → List ℕ → Stage → State
-due c string stage = record {
-  settings = record { values = 1 ∷ 10 ∷ 0 ∷ 1 ∷ 0 ∷ 1 ∷ []; string = string };
-  connection = c;
-  sender = record { held = record { case = Is Letters; column = At 10 }; last = last.Other };
-  reading = Letters;
-  incoming = Figures;
-  reader = record { stage = stage; values = 90 ∷ 0 ∷ 0 ∷ 0 ∷ 0 ∷ 0 ∷ 0 ∷ 0 ∷ 0 ∷ 0 ∷ 0 ∷ [] };
-}
+-- the state after commands that write, each by its fields
+abbrev written : State → List (List ℕ) → State
+written s [] = s
+written s (f ∷ fs) = written (withStored s (commanded (s .settings) (s .connection) verb.Write (length f) f .stored)) fs
+
+-- 1,2,1,60 and 4,2,1,60 connect
+abbrev mode1 : List ℕ
+mode1 = 1 ∷ 2 ∷ 1 ∷ 60 ∷ []
+
+abbrev mode4 : List ℕ
+mode4 = 4 ∷ 2 ∷ 1 ∷ 60 ∷ []
+
+-- connected, 49 and 71 on, limit 10, this string 90, 74 on: an ending is due, and each CR of it is followed by LTRS
+abbrev due : List ℕ → List ℕ → Stage → State
+due mode string stage =
+    let s = written freshBox (mode ∷ (49 ∷ 1 ∷ 1 ∷ []) ∷ (50 ∷ 1 ∷ 10 ∷ []) ∷ (71 ∷ 1 ∷ 1 ∷ []) ∷ (74 ∷ 1 ∷ 1 ∷ []) ∷ (90 ∷ 8 ∷ string) ∷ []) in
+    withReader (withSender (withIncoming s Figures) (record { held = record { case = Is Letters; column = At 10 }; last = last.Other })) (record { stage = stage; values = 90 ∷ 0 ∷ 0 ∷ 0 ∷ 0 ∷ 0 ∷ 0 ∷ 0 ∷ 0 ∷ 0 ∷ 0 ∷ [] })
 
 abbrev shifting : List ℕ
 shifting = 27 ∷ 8 ∷ 27 ∷ 8 ∷ 27 ∷ 8 ∷ 27 ∷ 8 ∷ []
@@ -47,25 +55,25 @@ pub record Reached (t : Stream) (s : State) (b n m : ℕ) : Type 0 where
   pub second : length (secondOf t (step t s b)) ≡ m
 
 -- a held `/` and a letter
-pub text : Reached Host (due (link 1 1 60) shifting Held) 65 (mostFirst Host) 0
-unfolding soundString conversion kindOf rowAt
+pub text : Reached Host (due mode1 shifting Held) 65 (mostFirst Host) 0
+unfolding soundString commanded idOf endings limit onspace onreturn filter endingCodes conversion kindOf rowAt
 text = record { sound = refl; first = refl; second = refl }
 
 -- string 90 read
-pub answer : Reached Host (due (link 1 1 60) wide (Fields verb.Read form.Digits 1)) 13 0 (mostSecond Host)
-unfolding soundString commanded idOf digits
+pub answer : Reached Host (due mode1 wide (Fields verb.Read form.Digits 1)) 13 0 (mostSecond Host)
+unfolding soundString commanded idOf endingCodes digits
 answer = record { sound = refl; first = refl; second = refl }
 
 -- a figure from the TU
-pub figure : Reached Tu (due (link 4 1 60) shifting Text) 23 (mostFirst Tu) 0
-unfolding soundString kindOf rowAt
+pub figure : Reached Tu (due mode4 shifting Text) 23 (mostFirst Tu) 0
+unfolding soundString commanded idOf endings limit onspace onreturn filter endingCodes kindOf rowAt
 figure = record { sound = refl; first = refl; second = refl }
 
 -- a line code to the host, and one to the TU
-pub to-host : Reached Line (due (link 1 1 60) wide Text) 3 (mostFirst Line) 0
-unfolding soundString kindOf rowAt
+pub to-host : Reached Line (due mode1 wide Text) 3 (mostFirst Line) 0
+unfolding soundString commanded idOf reports endingCodes kindOf rowAt
 to-host = record { sound = refl; first = refl; second = refl }
 
-pub to-tu : Reached Line (due (link 4 1 60) wide Text) 3 0 (mostSecond Line)
-unfolding soundString
+pub to-tu : Reached Line (due mode4 wide Text) 3 0 (mostSecond Line)
+unfolding soundString commanded idOf endingCodes
 to-tu = record { sound = refl; first = refl; second = refl }
