@@ -11,6 +11,7 @@ use Rattle.code.specs.Convert.{conversion}
 use Rattle.message.specs.Message.{digits}
 use Rattle.settings.specs.Table.{soundString, idOf}
 use Rattle.settings.specs.Command.{commanded}
+use Rattle.settings.specs.Options.{endings, limit, onspace, onreturn, filter, reports, endingCodes}
 use Rattle.printer.specs.Printer.{hear, hears}
 use Rattle.agree.specs.Agrees.{ObeysAt, Obeys}
 use Rattle.step.specs.State.{freshBox}
@@ -37,15 +38,15 @@ implied false y h e = absurd (false≢true e)
 
 abbrev obeyAt : Settings → Printer → Kind → Bool
 obeyAt o p Still = true
-obeyAt o p Space = implies (p .onspace) (o .onspace)
-obeyAt o p Return = implies (p .onreturn) (o .onreturn)
+obeyAt o p Space = implies (p .onspace) (onspace o)
+obeyAt o p Return = implies (p .onreturn) (onreturn o)
 obeyAt o p (Shift to) = true
 obeyAt o p (Char bell) = true
 
 obeys-at : (o : Settings) (p : Printer) (k : Kind) → obeyAt o p k ≡ true → ObeysAt o p k
 obeys-at o p Still h = tt
-obeys-at o p Space h = implied (p .onspace) (o .onspace) h
-obeys-at o p Return h = implied (p .onreturn) (o .onreturn) h
+obeys-at o p Space h = implied (p .onspace) (onspace o) h
+obeys-at o p Return h = implied (p .onreturn) (onreturn o) h
 obeys-at o p (Shift to) h = tt
 obeys-at o p (Char bell) h = tt
 
@@ -74,17 +75,17 @@ obedient joining n x (e ∷ es) h =
 
 -- what its calls write to the line buffers
 pub example-codes : sentAll (exchanges ours freshBox calls) ≡ codes
-unfolding conversion kindOf rowAt digits soundString idOf commanded
+unfolding conversion kindOf rowAt digits soundString idOf commanded endings limit onspace onreturn filter reports endingCodes
 example-codes = refl
 
 -- the bytes that its calls take
 pub example-bytes : tookAll (exchanges ours freshBox calls) ≡ bytes
-unfolding conversion kindOf rowAt digits soundString idOf commanded
+unfolding conversion kindOf rowAt digits soundString idOf commanded endings limit onspace onreturn filter reports endingCodes
 example-bytes = refl
 
 -- its printers are obedient
 example-test : obeyAll joining 0 freshBox first bytes ≡ true
-unfolding conversion kindOf rowAt digits soundString idOf commanded
+unfolding conversion kindOf rowAt digits soundString idOf commanded endings limit onspace onreturn filter reports endingCodes
 example-test = refl
 
 pub example-obedient : Obedient joining 0 (start first) (tookAll (exchanges ours freshBox calls))
@@ -96,7 +97,7 @@ example = ours-prints calls .holds first joining example-obedient
 
 -- and what is printed beside its two endings is what it asks for
 pub example-asked : asksAll freshBox bytes ≡ asked
-unfolding conversion kindOf rowAt digits soundString idOf commanded
+unfolding conversion kindOf rowAt digits soundString idOf commanded endings limit onspace onreturn filter reports endingCodes
 example-asked = refl
 
 pub example-own : ownOf joining 0 (start first) (tookAll (exchanges ours freshBox calls)) example ≡ asked

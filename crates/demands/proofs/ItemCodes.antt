@@ -8,6 +8,7 @@ use lib.Dec.{leb}
 use borrow.Author.Tests.{leb-true, le-leb}
 use Rattle.laws.proofs.Both.{both}
 use Rattle.code.specs.Kinds.{kindOf, dependent, moves, shift, shifts}
+use Rattle.settings.specs.Options.{endings, limit, onspace, onreturn, filter, endingCodes}
 use Rattle.sender.specs.Record.{notes}
 use Rattle.sender.specs.Code.{isCase, shiftTo, shiftFor, unshift, follow, sendAs}
 use Rattle.sender.specs.Ending.{onRecord, endingCode, endingOf, untilZero, due, ending, endingBefore}
@@ -60,8 +61,8 @@ unshift-if false n = without-first (false ≡ true) (n ≡ Is Letters → ⊥) (
 
 follow-if : (o : Settings) (n : Known) (k : Kind) → If (Unshifts o k × (n ≡ Is Letters → ⊥)) (shift Letters ∷ []) (shifts (follow o n k))
 follow-if o n Still = without-first ⊥ (n ≡ Is Letters → ⊥) (shift Letters ∷ []) (λ x. x)
-follow-if o n Space = unshift-if (o .onspace) n
-follow-if o n Return = unshift-if (o .onreturn) n
+follow-if o n Space = unshift-if (onspace o) n
+follow-if o n Return = unshift-if (onreturn o) n
 follow-if o n (Shift to) = without-first ⊥ (n ≡ Is Letters → ⊥) (shift Letters ∷ []) (λ x. x)
 follow-if o n (Char bell) = without-first ⊥ (n ≡ Is Letters → ⊥) (shift Letters ∷ []) (λ x. x)
 
@@ -106,21 +107,21 @@ repeating (Shift to) (last.Shift Figures) h = rw h refl
 repeating (Char bell) l h = absurd h
 
 -- option 49
-is-due : (o : Settings) (col : Column) → due o col ≡ true → (o .endings ≡ true) × Reached o col
+is-due : (o : Settings) (col : Column) → due o col ≡ true → (endings o ≡ true) × Reached o col
 is-due o column.Unknown h = absurd (false≢true h)
-is-due o (At n) h = let p = both (o .endings) (leb (o .limit) n) h in (p .0, leb-true (o .limit) n (p .1))
+is-due o (At n) h = let p = both (endings o) (leb (limit o) n) h in (p .0, leb-true (limit o) n (p .1))
 
-due-is : (o : Settings) (col : Column) → o .endings ≡ true → Reached o col → due o col ≡ true
+due-is : (o : Settings) (col : Column) → endings o ≡ true → Reached o col → due o col ≡ true
 due-is o column.Unknown e h = absurd h
-due-is o (At n) e h = rw (e, le-leb (o .limit) n h) refl
+due-is o (At n) e h = rw (e, le-leb (limit o) n h) refl
 
-ending-if : (o : Settings) (r : Record) (w : Wanted) → If (EndingDue o r w) (endingOf o r (untilZero (o .string))) (endingBefore o r w)
+ending-if : (o : Settings) (r : Record) (w : Wanted) → If (EndingDue o r w) (endingOf o r (untilZero (endingCodes o))) (endingBefore o r w)
 ending-if o r w = go (moves (w .case) (kindOf (w .code)) && due o (r .column)) refl
   where
     m : Bool
     m = moves (w .case) (kindOf (w .code))
 
-    go : (b : Bool) → m && due o (r .column) ≡ b → If (EndingDue o r w) (endingOf o r (untilZero (o .string))) (ending o r b)
+    go : (b : Bool) → m && due o (r .column) ≡ b → If (EndingDue o r w) (endingOf o r (untilZero (endingCodes o))) (ending o r b)
     go true e =
         let p = both m (due o (r .column)) e in
         let q = is-due o (r .column) (p .1) in
@@ -130,7 +131,7 @@ ending-if o r w = go (moves (w .case) (kindOf (w .code)) && due o (r .column)) r
 -- nothing exactly if it is dropped, string 90 exactly if its condition holds, the shift exactly if it is needed, the code, and
 -- LTRS exactly if 70 or 71 asks
 pub item-sends : (o : Settings) (s : Sender) (w : Wanted) → ItemSends o s w (item o s w)
-item-sends o s w = go (repeats (lastOf (kindOf (w .code))) (s .last)) (o .filter) refl refl
+item-sends o s w = go (repeats (lastOf (kindOf (w .code))) (s .last)) (filter o) refl refl
   where
     k : Kind
     k = kindOf (w .code)
@@ -141,7 +142,7 @@ item-sends o s w = go (repeats (lastOf (kindOf (w .code))) (s .last)) (o .filter
     own : List ℕ
     own = sendAs o (notes o (s .held) string .case) (w .case) (w .code)
 
-    go : (p q : Bool) → repeats (lastOf k) (s .last) ≡ p → o .filter ≡ q → ItemSends o s w (cond (p && q) [] (string ++ own))
+    go : (p q : Bool) → repeats (lastOf k) (s .last) ≡ p → filter o ≡ q → ItemSends o s w (cond (p && q) [] (string ++ own))
     go p q e f = record {
       string = string;
       own = own;
@@ -151,7 +152,7 @@ item-sends o s w = go (repeats (lastOf (kindOf (w .code))) (s .last)) (o .filter
       code = code-sends o (notes o (s .held) string .case) (w .case) (w .code);
     }
       where
-        kept : (p q : Bool) → repeats (lastOf k) (s .last) ≡ p → o .filter ≡ q → (Dropped o s w → ⊥) → cond (p && q) [] (string ++ own) ≡ string ++ own
+        kept : (p q : Bool) → repeats (lastOf k) (s .last) ≡ p → filter o ≡ q → (Dropped o s w → ⊥) → cond (p && q) [] (string ++ own) ≡ string ++ own
         kept true true e f n = absurd (n (f, repeated k (s .last) e))
         kept true false e f n = refl
         kept false q e f n = refl

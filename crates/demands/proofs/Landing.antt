@@ -9,6 +9,7 @@ use lib.ListN.{length}
 use Rattle.code.specs.Kinds.{kindOf, shifts}
 use Rattle.code.proofs.Laws.{kind-shift}
 use Rattle.settings.specs.Table.{soundSettings}
+use Rattle.settings.specs.Options.{endings, limit, onspace, onreturn, endingCodes}
 use Rattle.printer.specs.Printer.{hear, hears, prints, sheet}
 use Rattle.sender.specs.Code.{isCase, unshift, sendKind, sendAs}
 use Rattle.sender.specs.Ending.{endingBefore}
@@ -56,8 +57,8 @@ module _ (limit : ℕ) where
     where
       go : (k : Kind) → Within limit false p (sendKind o n want k c)
       go Still = (none, tt)
-      go Space = (none, shifts-within (isReturn (kindOf c)) (hear p c) (unshift (o .onspace) n))
-      go Return = (none, shifts-within (isReturn (kindOf c)) (hear p c) (unshift (o .onreturn) n))
+      go Space = (none, shifts-within (isReturn (kindOf c)) (hear p c) (unshift (onspace o) n))
+      go Return = (none, shifts-within (isReturn (kindOf c)) (hear p c) (unshift (onreturn o) n))
       go (Shift to) = (none, tt)
       go (Char bell) = shifted-within p want c (isCase n want)
 
@@ -67,24 +68,24 @@ unknown-within limit o r p w e =
     let d : endingBefore o r w ≡ [] = rw (e, and-false) in
     rw d (code-within limit o (r .case) p (w .case) (w .code))
 
-module _ (o : Settings) (h : soundSettings o ≡ true) (eight : length (o .string) ≡ 8) (on : o .endings ≡ true) where
-  item-within : (s : Sender) (p : Printer) (w : Wanted) (b : Bool) → (b ≡ true → ColumnSure (s .held .column)) → Obeys o p (item o s w) → Agrees (s .held) p → Within (o .limit) b p (item o s w)
+module _ (o : Settings) (h : soundSettings o ≡ true) (eight : length (endingCodes o) ≡ 8) (on : endings o ≡ true) where
+  item-within : (s : Sender) (p : Printer) (w : Wanted) (b : Bool) → (b ≡ true → ColumnSure (s .held .column)) → Obeys o p (item o s w) → Agrees (s .held) p → Within (limit o) b p (item o s w)
   item-within s p w b sure obeys a = go (s .held .column) refl b sure
     where
-      known : (b : Bool) → ColumnSure (s .held .column) → Within (o .limit) b p (item o s w)
-      known b f = below-within (o .limit) b p (item o s w) (item-below o h eight on s p w f obeys a)
+      known : (b : Bool) → ColumnSure (s .held .column) → Within (limit o) b p (item o s w)
+      known b f = below-within (limit o) b p (item o s w) (item-below o h eight on s p w f obeys a)
 
-      go : (col : Column) → s .held .column ≡ col → (b : Bool) → (b ≡ true → ColumnSure (s .held .column)) → Within (o .limit) b p (item o s w)
+      go : (col : Column) → s .held .column ≡ col → (b : Bool) → (b ≡ true → ColumnSure (s .held .column)) → Within (limit o) b p (item o s w)
       go (column.At n) e b sure = known b (rw e tt)
       go column.Unknown e true sure = known true (sure refl)
-      go column.Unknown e false sure = item-cases o s w (Within (o .limit) false p) tt (unknown-within (o .limit) o (s .held) p w e)
+      go column.Unknown e false sure = item-cases o s w (Within (limit o) false p) tt (unknown-within (limit o) o (s .held) p w e)
 
   -- many items, each with the column known as soon as a return was sent
-  pub items-within : (s : Sender) (p : Printer) (ws : List Wanted) (b : Bool) → (b ≡ true → ColumnSure (s .held .column)) → Obeys o p (items o s ws) → Agrees (s .held) p → Within (o .limit) b p (items o s ws)
+  pub items-within : (s : Sender) (p : Printer) (ws : List Wanted) (b : Bool) → (b ≡ true → ColumnSure (s .held .column)) → Obeys o p (items o s ws) → Agrees (s .held) p → Within (limit o) b p (items o s ws)
   items-within s p [] b sure obeys a = tt
   items-within s p (w ∷ ws) b sure obeys a =
       let cs = item o s w in
       let both = obeys-append o p cs (items o (afterItem o s w) ws) obeys in
       let after : (b || holds isReturn cs) ≡ true → ColumnSure (afterItem o s w .held .column) = λ q. column-told o s (w ∷ []) b sure (rw (append-nil cs) q) in
-      within-append (o .limit) b p cs (items o (afterItem o s w) ws) (item-within s p w b sure (both .0) a)
+      within-append (limit o) b p cs (items o (afterItem o s w) ws) (item-within s p w b sure (both .0) a)
       (items-within (afterItem o s w) (hears p cs) ws (b || holds isReturn cs) after (both .1) (agreement o (s .held) p cs (both .0) a))

@@ -4,6 +4,7 @@ use Prim.Native.Nat.{ℕ, suc}
 use mathlib.Core.Path.{_≡_, refl, ap, _∙_}
 use mathlib.Core.Bool.{Bool, true, false, cond, _||_, false≢true}
 use mathlib.Core.List.{List, [], _∷_}
+use Rattle.settings.specs.Options.{endingCodes}
 use Rattle.printer.specs.Printer.{hears}
 use Rattle.sender.specs.Item.{items, afterItems, fresh}
 use Rattle.agree.specs.Agrees.{Agrees, Obeys}
@@ -45,6 +46,7 @@ module _ (x : Scene) (e : Event) (other : Printer) (stands : Stands x) (obeys : 
   obeys-items = rw (line-items (x .state) e) at obeys
 
   keeps : Keeps x e
+  unfolding endingCodes
   keeps = record {
     agrees = stands .agrees;
     printed = rw (line-items (x .state) e, ← items-read (x .state) e) (items-printed o sender (x .printer) ws obeys-items (stands .agrees));

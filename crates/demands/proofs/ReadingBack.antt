@@ -11,6 +11,7 @@ use Rattle.code.specs.Rows.{rowAt}
 use Rattle.code.specs.Kinds.{kindOf, strikes}
 use Rattle.command.specs.Read.{read, textOf}
 use Rattle.command.specs.Reads.{made}
+use Rattle.settings.specs.Options.{reports}
 use Rattle.printer.specs.Printer.{advanced, hearKind, hear, hears, from, markAs, printsAs, sheet}
 use Rattle.sender.specs.Item.{items, afterItems, fresh}
 use Rattle.agree.specs.Agrees.{Agrees, ObeysAt, Obeys}
@@ -40,7 +41,7 @@ abbrev follower : Case → ℕ → Printer
 follower case n = from case n false false
 
 -- is the box's own reader of line codes
-line-reads : (port speed : ℕ) (cs : List ℕ) (s : State) (n : ℕ) → s .connection ≡ Mode1 port speed → s .settings .reports ≡ false → firstsOf Line s cs ≡ charactersOf (sheet (follower (s .reading) n) cs)
+line-reads : (port speed : ℕ) (cs : List ℕ) (s : State) (n : ℕ) → s .connection ≡ Mode1 port speed → reports (s .settings) ≡ false → firstsOf Line s cs ≡ charactersOf (sheet (follower (s .reading) n) cs)
 line-reads port speed [] s n e off = refl
 line-reads port speed (c ∷ cs) s n e off =
     ap (λ (k : Connection). lined k s c .host ++ firstsOf Line (lined k s c .state) cs) e

@@ -12,6 +12,7 @@ use Rattle.code.specs.Convert.{conversion}
 use Rattle.message.specs.Message.{digits}
 use Rattle.settings.specs.Table.{soundString, idOf}
 use Rattle.settings.specs.Command.{commanded}
+use Rattle.settings.specs.Options.{endings, limit, onspace, onreturn, filter, reports, endingCodes}
 use Rattle.step.specs.State.{freshBox}
 use Rattle.step.specs.Step.{step, Event, run}
 use Rattle.linebox.proofs.Turns.{turned-true}
@@ -26,7 +27,7 @@ use Rattle.demands.proofs.Lent.{ours-reads-back}
 -- The premises as a test.
 
 abbrev plain : State → Event → Bool
-plain s e = not (connects s e) && (not (s .settings .endings) && not (s .settings .reports))
+plain s e = not (connects s e) && (not (endings (s .settings)) && not (reports (s .settings)))
 
 abbrev allPlain : State → List Event → Bool
 allPlain s [] = true
@@ -37,18 +38,18 @@ all-plain s [] h = tt
 all-plain s (e ∷ es) h =
     let x = step (e .stream) s (e .byte) .state in
     let p = both (plain s e) (allPlain x es) h in
-    let q = both (not (connects s e)) (not (s .settings .endings) && not (s .settings .reports)) (p .0) in
-    let r = both (not (s .settings .endings)) (not (s .settings .reports)) (q .1) in
-    (record { stays = turned-true (connects s e) (q .0); endings = turned-true (s .settings .endings) (r .0); reports = turned-true (s .settings .reports) (r .1) }, all-plain x es (p .1))
+    let q = both (not (connects s e)) (not (endings (s .settings)) && not (reports (s .settings))) (p .0) in
+    let r = both (not (endings (s .settings))) (not (reports (s .settings))) (q .1) in
+    (record { stays = turned-true (connects s e) (q .0); endings = turned-true (endings (s .settings)) (r .0); reports = turned-true (reports (s .settings)) (r .1) }, all-plain x es (p .1))
 
 -- The calls.
 
 pub example-took : tookAll (exchanges ours freshBox calls) ≡ before ++ (joining ∷ (after ++ later))
-unfolding commanded idOf soundString conversion kindOf rowAt digits
+unfolding commanded idOf soundString conversion kindOf rowAt digits endings limit onspace onreturn filter reports endingCodes
 example-took = refl
 
 pub example-sent : sentAll (exchanges ours freshBox calls) ≡ codes ++ lastCodes
-unfolding commanded idOf soundString conversion kindOf rowAt digits
+unfolding commanded idOf soundString conversion kindOf rowAt digits endings limit onspace onreturn filter reports endingCodes
 example-sent = refl
 
 pub example-joins : Joins (run freshBox before) joining
@@ -56,16 +57,16 @@ unfolding commanded idOf soundString
 example-joins = record { connects = refl; port = 1; speed = 60; mode1 = refl }
 
 pub example-plain : AllPlain connected after
-unfolding commanded idOf soundString conversion kindOf rowAt
+unfolding commanded idOf soundString conversion kindOf rowAt endings limit onspace onreturn filter reports endingCodes
 example-plain = all-plain connected after refl
 
 -- the codes that `after` sent, and its text
 pub example-stretch : take (length (lines connected after)) (drop (length (lines freshBox before)) (codes ++ lastCodes)) ≡ codes
-unfolding commanded idOf soundString conversion kindOf rowAt
+unfolding commanded idOf soundString conversion kindOf rowAt endings limit onspace onreturn filter reports endingCodes
 example-stretch = refl
 
 pub example-text : plainText connected after ≡ text
-unfolding commanded idOf soundString conversion kindOf rowAt
+unfolding commanded idOf soundString conversion kindOf rowAt endings limit onspace onreturn filter reports endingCodes
 example-text = refl
 
 -- so they read back

@@ -7,6 +7,7 @@ use mathlib.Core.List.{List, [], _∷_, _++_, append-assoc, append-nil}
 use Rattle.laws.proofs.Both.{both}
 use lib.Dec.{leb}
 use Rattle.code.specs.Kinds.{kindOf, dependent, moves, shift, shifts}
+use Rattle.settings.specs.Options.{endings, limit, onspace, onreturn, endingCodes}
 use Rattle.printer.specs.Printer.{hear, hears, markAs, printsAs, sheet}
 use Rattle.sender.specs.Record.{notes}
 use Rattle.sender.specs.Code.{isCase, shiftTo, unshift, sendKind, sendAs}
@@ -91,8 +92,8 @@ module _ (o : Settings) where
       where
         go : (k : Kind) → kindOf c ≡ k → GoesOut o (c ∷ cs) (sendKind o n (onRecord n) k c ++ sent)
         go Still e = GoesOut.Alone h
-        go Space e = followed (o .onspace) n (λ on. GoesOut.Spaced e on h)
-        go Return e = followed (o .onreturn) n (λ on. GoesOut.Returned e on h)
+        go Space e = followed (onspace o) n (λ on. GoesOut.Spaced e on h)
+        go Return e = followed (onreturn o) n (λ on. GoesOut.Returned e on h)
         go (Shift to) e = GoesOut.Alone h
         go (Char bell) e = led n (ap dependent e)
 
@@ -102,15 +103,15 @@ module _ (o : Settings) where
       let next = notes o r (endingCode o (r .case) c) in
       code-goes c cs (endingOf o next cs) (string-goes next cs) (r .case)
 
-  is-on : (col : Column) → due o col ≡ true → o .endings ≡ true
+  is-on : (col : Column) → due o col ≡ true → endings o ≡ true
   is-on column.Unknown h = absurd (false≢true h)
-  is-on (column.At n) h = both (o .endings) (leb (o .limit) n) h .0
+  is-on (column.At n) h = both (endings o) (leb (limit o) n) h .0
 
   -- string 90 if it is due
-  ending-printed : (p : Printer) (r : Record) (b : Bool) → (b ≡ true → o .endings ≡ true) → Printed o p (ending o r b) []
+  ending-printed : (p : Printer) (r : Record) (b : Bool) → (b ≡ true → endings o ≡ true) → Printed o p (ending o r b) []
   ending-printed p r false h = printed-none p
   ending-printed p r true h =
-      let string = untilZero (o .string) in
+      let string = untilZero (endingCodes o) in
       record {
         stretches = record { ending = true; codes = endingOf o r string } ∷ [];
         whole = sym (append-nil (endingOf o r string));
@@ -164,7 +165,7 @@ module _ (o : Settings) where
       (items-printed (afterItem o s w) (hears p cs) ws (both .1) (agreement o (s .held) p cs (both .0) a))
 
   -- With 49 off there is no ending, and all that is printed was asked for.
-  module _ (off : o .endings ≡ false) where
+  module _ (off : endings o ≡ false) where
     all-own : (p : Printer) (xs : List Stretch) → Endings o xs → ownPrints p xs ≡ charactersOf (sheet p (codesIn xs))
     all-own p [] h = refl
     all-own p (x ∷ xs) h =

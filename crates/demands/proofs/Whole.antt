@@ -4,6 +4,7 @@ use Prim.Native.Nat.{ℕ, suc}
 use mathlib.Core.Path.{_≡_, refl}
 use mathlib.Core.Bool.{false}
 use mathlib.Core.List.{List, [], _∷_}
+use Rattle.settings.specs.Options.{endings}
 use Rattle.printer.specs.Printer.{sheet}
 use Rattle.step.specs.Step.{Event}
 use Rattle.demands.specs.Names.{Printer}
@@ -14,7 +15,7 @@ use Rattle.demands.specs.Whole.{ownOf, sheetOf, asksAll, Off}
 use Rattle.demands.proofs.Stretches.{characters-append, plain-printed}
 
 -- with 49 off, a byte prints exactly what it asks for
-pub plain-byte : (x : Scene) (e : Event) → Keeps x e → x .state .settings .endings ≡ false → charactersOf (sheet (x .printer) (does x e .line)) ≡ asks (x .state) e
+pub plain-byte : (x : Scene) (e : Event) → Keeps x e → endings (x .state .settings) ≡ false → charactersOf (sheet (x .printer) (does x e .line)) ≡ asks (x .state) e
 plain-byte x e h off = plain-printed (x .state .settings) off (x .printer) (does x e .line) (asks (x .state) e) (h .printed)
 
 -- bytes of which demand 3 holds, from any scene and counted from any number

@@ -11,6 +11,7 @@ use Rattle.code.specs.Rows.{rowAt}
 use Rattle.code.specs.Kinds.{kindOf}
 use Rattle.code.proofs.Laws.{kind-shift}
 use Rattle.settings.specs.Table.{factory}
+use Rattle.settings.specs.Options.{endings, endingCodes}
 use Rattle.printer.specs.Printer.{hear, hears, markAs, printsAs, sheet}
 use Rattle.sender.specs.Ending.{untilZero}
 use Rattle.demands.specs.Names.{Letters, Kind, Still, Space, Return, Shift, Char, Settings, Printer, Mark}
@@ -66,7 +67,7 @@ module _ (o : Settings) where
   goes-length (GoesOut.Spaced e on h) = omega (arith, goes-length h)
   goes-length (GoesOut.Returned e on h) = omega (arith, goes-length h)
 
-  module _ (three : marks (untilZero (o .string)) ≡ 3) (five : length (untilZero (o .string)) ≡ 5) where
+  module _ (three : marks (untilZero (endingCodes o)) ≡ 3) (five : length (untilZero (endingCodes o)) ≡ 5) where
     own-count : (p : Printer) (xs : List Stretch) → Endings o xs → length (ownPrints p xs) + 3 * endingsIn xs ≡ marks (codesIn xs)
     own-count p [] h = omega arith
     own-count p (x ∷ xs) h = go (x .ending) (h .0) (own-count (hears p (x .codes)) xs (h .1))
@@ -74,7 +75,7 @@ module _ (o : Settings) where
         rest : List ℕ
         rest = ownPrints (hears p (x .codes)) xs
 
-        go : (b : Bool) → (b ≡ true → (o .endings ≡ true) × GoesOut o (untilZero (o .string)) (x .codes)) → length rest + 3 * endingsIn xs ≡ marks (codesIn xs)
+        go : (b : Bool) → (b ≡ true → (endings o ≡ true) × GoesOut o (untilZero (endingCodes o)) (x .codes)) → length rest + 3 * endingsIn xs ≡ marks (codesIn xs)
             → length (cond b [] (charactersOf (sheet p (x .codes))) ++ rest) + 3 * (cond b 1 0 + endingsIn xs) ≡ marks (x .codes ++ codesIn xs)
         go true e t = omega (arith, t, three, marks-append (x .codes) (codesIn xs), goes-marks (e refl .1))
         go false e t = omega (arith, t, marks-append (x .codes) (codesIn xs), marked p (x .codes), length-append (charactersOf (sheet p (x .codes))) rest)
@@ -83,18 +84,18 @@ module _ (o : Settings) where
     code-count [] h = omega arith
     code-count (x ∷ xs) h = go (x .ending) (h .0) (code-count xs (h .1))
       where
-        go : (b : Bool) → (b ≡ true → (o .endings ≡ true) × GoesOut o (untilZero (o .string)) (x .codes)) → 5 * endingsIn xs ≤ length (codesIn xs)
+        go : (b : Bool) → (b ≡ true → (endings o ≡ true) × GoesOut o (untilZero (endingCodes o)) (x .codes)) → 5 * endingsIn xs ≤ length (codesIn xs)
             → 5 * (cond b 1 0 + endingsIn xs) ≤ length (x .codes ++ codesIn xs)
         go true e t = omega (arith, t, five, length-append (x .codes) (codesIn xs), goes-length (e refl .1))
         go false e t = omega (arith, t, length-append (x .codes) (codesIn xs))
 
 -- With string 90 as the factory has it, and any printer.
-module _ (o : Settings) (string : o .string ≡ factory .string) (p : Printer) where
+module _ (o : Settings) (string : endingCodes o ≡ endingCodes factory) (p : Printer) where
   counts : (cs asked : List ℕ) (h : Printed o p cs asked) → (length asked + 3 * endingsIn (h .stretches) ≡ marks cs) × (5 * endingsIn (h .stretches) ≤ length cs)
-  unfolding kindOf rowAt
+  unfolding kindOf rowAt endingCodes
   counts cs asked h =
-      let three : marks (untilZero (o .string)) ≡ 3 = ap (λ (xs : List ℕ). marks (untilZero xs)) string in
-      let five : length (untilZero (o .string)) ≡ 5 = ap (λ (xs : List ℕ). length (untilZero xs)) string in
+      let three : marks (untilZero (endingCodes o)) ≡ 3 = ap (λ (xs : List ℕ). marks (untilZero xs)) string in
+      let five : length (untilZero (endingCodes o)) ≡ 5 = ap (λ (xs : List ℕ). length (untilZero xs)) string in
       rw (h .whole, ← h .own) (own-count o three five p (h .stretches) (h .endings), code-count o three five (h .stretches) (h .endings))
 
   pub prints-more-fails : Printed o p printsMore (75 ∷ []) → ⊥
@@ -111,15 +112,15 @@ module _ (o : Settings) (string : o .string ≡ factory .string) (p : Printer) w
       omega (arith, e, l)
 
   -- an ending with 49 off
-  pub unasked-fails : o .endings ≡ false → Printed o p ended (75 ∷ []) → ⊥
+  pub unasked-fails : endings o ≡ false → Printed o p ended (75 ∷ []) → ⊥
   unfolding kindOf rowAt
   unasked-fails off h =
       let e : _≡_ {A = ℕ} 4 1 = sym (marked p ended) ∙ ap length (plain-printed o off p ended (75 ∷ []) h) in
       omega (arith, e)
 
   -- with 49 on it is right
-  pub ended-prints : o .endings ≡ true → Printed o p ended (75 ∷ [])
-  unfolding kindOf rowAt
+  pub ended-prints : endings o ≡ true → Printed o p ended (75 ∷ [])
+  unfolding kindOf rowAt endingCodes
   ended-prints on = record {
     stretches = record { ending = true; codes = 8 ∷ 8 ∷ 2 ∷ 31 ∷ 31 ∷ [] } ∷ record { ending = false; codes = 15 ∷ [] } ∷ [];
     whole = refl;

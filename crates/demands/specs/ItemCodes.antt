@@ -4,6 +4,7 @@ use mathlib.Core.Path.{_≡_}
 use mathlib.Core.Bool.{true}
 use mathlib.Core.List.{List, [], _∷_, _++_}
 use Rattle.code.specs.Kinds.{kindOf, dependent, moves, shift}
+use Rattle.settings.specs.Options.{endings, limit, onspace, onreturn, filter, endingCodes}
 use Rattle.sender.specs.Record.{notes}
 use Rattle.sender.specs.Ending.{endingOf, untilZero}
 use Rattle.demands.specs.Names.{Case, Letters, Kind, Still, Space, Return, Shift, Char, Settings, Known, Is, Column, At, Record, Last, Wanted, Sender}
@@ -29,8 +30,8 @@ NeedsLetters n k = (dependent k ≡ true) × (n ≡ known.Unknown)
 -- a space with 70 on, or a return with 71 on
 abbrev pub Unshifts : Settings → Kind → Type 0
 Unshifts o Still = ⊥
-Unshifts o Space = o .onspace ≡ true
-Unshifts o Return = o .onreturn ≡ true
+Unshifts o Space = onspace o ≡ true
+Unshifts o Return = onreturn o ≡ true
 Unshifts o (Shift to) = ⊥
 Unshifts o (Char bell) = ⊥
 
@@ -54,15 +55,15 @@ Repeats (Shift to) (last.Shift from) = to ≡ from
 Repeats (Char bell) l = ⊥
 
 abbrev pub Dropped : Settings → Sender → Wanted → Type 0
-Dropped o s w = (o .filter ≡ true) × Repeats (kindOf (w .code)) (s .last)
+Dropped o s w = (filter o ≡ true) × Repeats (kindOf (w .code)) (s .last)
 
 -- option 49 is on, the column is known and not below the limit, and a space or carriage-moving character is asked for
 abbrev pub Reached : Settings → Column → Type 0
 Reached o column.Unknown = ⊥
-Reached o (At n) = o .limit ≤ n
+Reached o (At n) = limit o ≤ n
 
 abbrev pub EndingDue : Settings → Record → Wanted → Type 0
-EndingDue o r w = (o .endings ≡ true) × (Reached o (r .column) × (moves (w .case) (kindOf (w .code)) ≡ true))
+EndingDue o r w = (endings o ≡ true) × (Reached o (r .column) × (moves (w .case) (kindOf (w .code)) ≡ true))
 
 -- nothing exactly if it is dropped; otherwise string 90 exactly if its condition holds, and then the code, under the case that
 -- is on record after the string
@@ -71,5 +72,5 @@ pub record ItemSends (o : Settings) (s : Sender) (w : Wanted) (codes : List ℕ)
   pub own : List ℕ
   pub dropped : Dropped o s w → codes ≡ []
   pub sent : (Dropped o s w → ⊥) → codes ≡ string ++ own
-  pub ending : If (EndingDue o (s .held) w) (endingOf o (s .held) (untilZero (o .string))) string
+  pub ending : If (EndingDue o (s .held) w) (endingOf o (s .held) (untilZero (endingCodes o))) string
   pub code : let n = notes o (s .held) string .case in Sends o n (NeedsShift n (w .case) (kindOf (w .code))) (w .case) (w .code) own

@@ -4,6 +4,7 @@ use mathlib.Core.Path.{_≡_}
 use mathlib.Core.Bool.{Bool, true, cond, _||_}
 use mathlib.Core.List.{List, [], _∷_, _++_}
 use Rattle.code.specs.Kinds.{kindOf, dependent, shift}
+use Rattle.settings.specs.Options.{endings, limit, onspace, onreturn, endingCodes}
 use Rattle.printer.specs.Printer.{hear, hears, prints, sheet}
 use Rattle.sender.specs.Ending.{untilZero}
 use Rattle.agree.specs.Agrees.{Agrees}
@@ -35,13 +36,13 @@ pub data GoesOut (o : Settings) : List ℕ → List ℕ → Type 0 where
   End : GoesOut o [] []
   Alone : {c : ℕ} {cs sent : List ℕ} → GoesOut o cs sent → GoesOut o (c ∷ cs) (c ∷ sent)
   Led : {c : ℕ} {cs sent : List ℕ} → dependent (kindOf c) ≡ true → GoesOut o cs sent → GoesOut o (c ∷ cs) (shift Letters ∷ c ∷ sent)
-  Spaced : {c : ℕ} {cs sent : List ℕ} → kindOf c ≡ Space → o .onspace ≡ true → GoesOut o cs sent → GoesOut o (c ∷ cs) (c ∷ shift Letters ∷ sent)
-  Returned : {c : ℕ} {cs sent : List ℕ} → kindOf c ≡ Return → o .onreturn ≡ true → GoesOut o cs sent → GoesOut o (c ∷ cs) (c ∷ shift Letters ∷ sent)
+  Spaced : {c : ℕ} {cs sent : List ℕ} → kindOf c ≡ Space → onspace o ≡ true → GoesOut o cs sent → GoesOut o (c ∷ cs) (c ∷ shift Letters ∷ sent)
+  Returned : {c : ℕ} {cs sent : List ℕ} → kindOf c ≡ Return → onreturn o ≡ true → GoesOut o cs sent → GoesOut o (c ∷ cs) (c ∷ shift Letters ∷ sent)
 
 -- each ending is string 90 up to its first 0, and there is one only with 49 on
 abbrev pub Endings : Settings → List Stretch → Type 0
 Endings o [] = Unit {0}
-Endings o (x ∷ xs) = (x .ending ≡ true → (o .endings ≡ true) × GoesOut o (untilZero (o .string)) (x .codes)) × Endings o xs
+Endings o (x ∷ xs) = (x .ending ≡ true → (endings o ≡ true) × GoesOut o (untilZero (endingCodes o)) (x .codes)) × Endings o xs
 
 -- the characters of marks, wherever they landed
 abbrev pub charactersOf : List Mark → List ℕ
@@ -72,7 +73,7 @@ pub record Keeps (x : Scene) (e : Event) : Type 0 where
   -- exactly what the byte asks for is printed, beside endings
   pub printed : Printed (x .state .settings) (x .printer) (does x e .line) (asks (x .state) e)
   -- with 49 on, after the first return, each space and struck character lands below the limit
-  pub margin : x .state .settings .endings ≡ true → Within (x .state .settings .limit) (x .returned) (x .printer) (does x e .line)
+  pub margin : endings (x .state .settings) ≡ true → Within (limit (x .state .settings)) (x .returned) (x .printer) (does x e .line)
 
 -- at every moment
 abbrev pub Holds : (ℕ → Printer) → ℕ → Scene → List Event → Type 0

@@ -6,6 +6,7 @@ use mathlib.Core.List.{List, [], _∷_, _++_}
 use lib.ListN.{length, take, drop}
 use Rattle.command.specs.Read.{textOf}
 use Rattle.command.specs.Reads.{made}
+use Rattle.settings.specs.Options.{endings, reports}
 use Rattle.step.specs.Step.{step, Event, run}
 use Rattle.linebox.specs.Ends.{firstsOf}
 use Rattle.demands.specs.Names.{Out, Mode1, State, Stream, Host, Line, Tu}
@@ -42,8 +43,8 @@ plainText s es = textBytes (texts (made (s .reader) (hostBytes es)))
 -- no connection command succeeds, and 49 and 74 are off; 70, 71 and 72 are as they like
 pub record Plain (s : State) (e : Event) : Type 0 where
   pub stays : connects s e ≡ false
-  pub endings : s .settings .endings ≡ false
-  pub reports : s .settings .reports ≡ false
+  pub endings : endings (s .settings) ≡ false
+  pub reports : reports (s .settings) ≡ false
 
 -- at each moment
 abbrev pub AllPlain : State → List Event → Type 0

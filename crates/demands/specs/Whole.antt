@@ -3,6 +3,7 @@ use Prim.Native.Nat.{ℕ, suc}
 use mathlib.Core.Path.{_≡_}
 use mathlib.Core.Bool.{false}
 use mathlib.Core.List.{List, [], _∷_, _++_}
+use Rattle.settings.specs.Options.{endings}
 use Rattle.printer.specs.Printer.{sheet}
 use Rattle.step.specs.Step.{step, Event}
 use Rattle.demands.specs.Names.{Printer, Mark, State}
@@ -28,4 +29,4 @@ asksAll s (e ∷ es) = asks s e ++ asksAll (step (e .stream) s (e .byte) .state)
 -- 49 is off whenever a byte is taken
 abbrev pub Off : State → List Event → Type 0
 Off s [] = Unit {0}
-Off s (e ∷ es) = (s .settings .endings ≡ false) × Off (step (e .stream) s (e .byte) .state) es
+Off s (e ∷ es) = (endings (s .settings) ≡ false) × Off (step (e .stream) s (e .byte) .state) es
