@@ -5,7 +5,9 @@ use mathlib.Core.List.{List}
 use lib.ListN.{getD, replicate}
 use Rattle.laws.specs.Written.{fronted}
 use Rattle.settings.specs.declared.Settings.{Settings}
+use Rattle.settings.specs.Command.{kept}
 use Rattle.step.specs.declared.State.{State}
+use Rattle.step.specs.State.{withStored}
 use Rattle.vectors.specs.declared.traces.Stream.{Stream}
 use Rattle.vectors.specs.declared.traces.Stream.the-variants.{Host, Line, Tu}
 use Rattle.vectors.specs.declared.text.Form.{Form}
@@ -52,10 +54,6 @@ lending b s = record { state = b .state; first = getD (numbersIn 3 s) 0 0; secon
 abbrev pub withLimit : Settings → ℕ → Settings
 withLimit x n = record { endings = x .endings; limit = n; onspace = x .onspace; onreturn = x .onreturn; filter = x .filter; reports = x .reports; string = x .string }
 
--- the state with other settings
-abbrev pub withSettings : State → Settings → State
-withSettings s x = record { settings = x; connection = s .connection; sender = s .sender; reading = s .reading; incoming = s .incoming; reader = s .reader }
-
 -- the box with that number in setting 50, sound or not
 abbrev pub limited : Bench → List ℕ → Bench
-limited b s = ready (withSettings (b .state) (withLimit (b .state .settings) (getD (numbersIn 1 s) 0 0)))
+limited b s = ready (withStored (b .state) (kept (withLimit (b .state .settings) (getD (numbersIn 1 s) 0 0)) (b .state .connection)))

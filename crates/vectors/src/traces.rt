@@ -1,12 +1,14 @@
 // What the traced lines and commands go on from: a box, and what its next call lends and starts from.
 ghost use mathlib.Core.Path.{_≡_};
-ghost use Rattle.vectors.specs.Traces.{ready, judged, prepared, formTaken, formFirst, lending, withLimit, withSettings, limited};
+ghost use Rattle.vectors.specs.Traces.{ready, judged, prepared, formTaken, formFirst, lending, withLimit, limited};
 use crate::text::Form;
 use crate::text::after_bar;
 use crate::text::before_bar;
 use crate::text::decode;
 use settings::Settings;
+use settings::Stored;
 use step::State;
+use step::states::with_stored;
 
 // Where a call's bytes come from: the host, the line or the TU.
 pub enum Stream {
@@ -127,25 +129,6 @@ fn with_limit(x: Settings, limit: u8) -> Settings
     }
 }
 
-// The state with other settings.
-fn with_settings(s: State, settings: Settings) -> State
-    ensures { λ r. ⌜ r ≡ withSettings s settings ⌝ }
-{
-    let connection = s.connection;
-    let sender = s.sender;
-    let reading = s.reading;
-    let incoming = s.incoming;
-    let reader = s.reader;
-    State {
-        settings,
-        connection,
-        sender,
-        reading,
-        incoming,
-        reader,
-    }
-}
-
 // `Z|number|`: the box with that number in setting 50, sound or not.
 pub fn limited(b: Bench, s: &[u8]) -> Bench
     ensures { λ r. ⌜ r ≡ limited b (now (s .entry)) ⌝ }
@@ -154,5 +137,11 @@ pub fn limited(b: Bench, s: &[u8]) -> Bench
     decode(Form::Decimal, before_bar(after_bar(s)), &mut out);
     let old = b.state;
     let was = old.settings;
-    ready(with_settings(old, with_limit(was, out[0])))
+    let connection = old.connection;
+    let stored = Stored {
+        settings: with_limit(was, out[0]),
+        connection,
+        connected: false,
+    };
+    ready(with_stored(old, stored))
 }

@@ -24,14 +24,14 @@ array-read-with-limit c = search needs
 with-limit-requires : tie.Need-with-limit-requires
 with-limit-requires c κs = search needs
 
-with-settings-requires : tie.Need-with-settings-requires
-with-settings-requires c κs = search needs
+with-stored-requires : tie.Need-with-stored-requires
+with-stored-requires c κs = search needs
 
 ready-requires : tie.Need-ready-requires
 ready-requires c κs = search needs
 
 returns : tie.Need-returns
-returns c = rw (c .ready .ensures, c .before .with-settings .ensures, c .before .before .with-limit .ensures, in-field 1 (now (c .before .before .before .before .before .before .before .before .before .before .before .args .s)) _ _ _ (c .before .before .before .before .before .before .before .before .before .after-bar .ensures) (c .before .before .before .before .before .before .before .before .before-bar .ensures) (c .before .before .before .before .before .before .decode .ensures .1))
+returns c = rw (c .ready .ensures, c .before .with-stored .ensures, c .before .before .with-limit .ensures, in-field 1 (now (c .before .before .before .before .before .before .before .before .before .before .before .args .s)) _ _ _ (c .before .before .before .before .before .before .before .before .before .after-bar .ensures) (c .before .before .before .before .before .before .before .before .before-bar .ensures) (c .before .before .before .before .before .before .decode .ensures .1))
 
 pub limited-spec : {M : Type 1} → statement M
 limited-spec =
@@ -43,6 +43,6 @@ limited-spec =
     decode-requires
     array-read-with-limit
     with-limit-requires
-    with-settings-requires
+    with-stored-requires
     ready-requires
     returns)
