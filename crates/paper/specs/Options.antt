@@ -2,10 +2,10 @@
 use Prim.Native.Nat.{ℕ}
 use mathlib.Core.Bool.{Bool, true, false}
 use Rattle.code.specs.declared.Case.the-variants.{Letters, Figures}
-use Rattle.stop.specs.declared.Known.{Known}
-use Rattle.stop.specs.declared.Known.the-variants as known
-use Rattle.stop.specs.declared.Spot.{Spot}
-use Rattle.stop.specs.declared.Spot.the-variants.{At, From}
+use Rattle.judgement.specs.declared.Known.{Known}
+use Rattle.judgement.specs.declared.Known.the-variants as known
+use Rattle.judgement.specs.declared.Spot.{Spot}
+use Rattle.judgement.specs.declared.Spot.the-variants.{At, From}
 use Rattle.words.specs.declared.Setting.{Setting}
 use Rattle.words.specs.declared.Setting.the-variants as setting
 use Rattle.paper.specs.declared.options.Options.{Options}

@@ -2,7 +2,7 @@
 use Prim.Native.Nat.{ℕ, _+_, _%_, _^_}
 use mathlib.Core.Bool.{Bool, true, false, cond}
 use mathlib.Core.List.{List, [], _∷_}
-use Rattle.stop.specs.Sheet.{feeds, step}
+use Rattle.judgement.specs.Sheet.{feeds, step}
 use Rattle.words.specs.declared.Reader.{Reader}
 use Rattle.words.specs.declared.Item.{Item}
 use Rattle.words.specs.declared.Item.the-variants as item

@@ -3,7 +3,7 @@ use Prim.Native.Nat.{ℕ, _+_}
 use mathlib.Core.Bool.{Bool, true, false, cond, _||_}
 use mathlib.Core.List.{List, [], _∷_}
 use lib.Dec.{eqb, ltb}
-use Rattle.stop.specs.declared.Line.{Line}
+use Rattle.judgement.specs.declared.Line.{Line}
 use Rattle.paper.specs.declared.show.Stretch.{Stretch}
 
 -- anything was struck

@@ -4,15 +4,15 @@ mod options;
 mod reading;
 mod show;
 
+use judgement::Line;
+use judgement::Tally;
+use judgement::lines;
+use judgement::sheets;
 use libc::STDIN_FILENO;
 use libc::STDOUT_FILENO;
 use options::Options;
 use reading::Record;
 use show::Stretch;
-use stop::Line;
-use stop::Tally;
-use stop::lines;
-use stop::sheets;
 use words::Reader;
 
 // Prints the first bytes, so many as there are.

@@ -3,8 +3,8 @@ ghost use mathlib.Core.Path.{_≡_};
 ghost use Rattle.words.specs.Arguments.{settingOf};
 ghost use Rattle.paper.specs.Options.{start, withCase, withSpot, withStop, withSpace, withReturn, refused, told};
 use code::Case;
-use stop::Known;
-use stop::Spot;
+use judgement::Known;
+use judgement::Spot;
 use words::Setting;
 use words::arguments;
 

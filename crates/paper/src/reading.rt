@@ -1,8 +1,8 @@
 // A record as far as it was read. What is read is shown on the way.
 ghost use mathlib.Core.Path.{_≡_};
 ghost use Rattle.paper.specs.Reading.{stopped, readTo, afterCode, afterItem, afterByte, afterBytes, afterLast};
-use stop::Sheet;
-use stop::sheets;
+use judgement::Sheet;
+use judgement::sheets;
 use words::Item;
 use words::Reader;
 

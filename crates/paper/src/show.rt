@@ -3,7 +3,7 @@ ghost use mathlib.Core.Path.{_≡_};
 ghost use Prim.Native.Nat.{_≤_};
 ghost use lib.ListN.{length};
 ghost use Rattle.paper.specs.Show.{marked, sizeFrom, inked, spaced, has, noStretch, longer, afterPlace};
-use stop::Line;
+use judgement::Line;
 
 // A run of places that stand alike, with bare ones between them: whether one is held, from where to where.
 pub struct Stretch {

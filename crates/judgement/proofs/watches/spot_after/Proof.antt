@@ -1,0 +1,62 @@
+-- `judgement::watches::spot_after` meets its contract: each case of the definition is one of the code.
+-- Assumes nothing.
+use borrow.Author.Needs.{needs}
+use Rattle.judgement.proofs.watches.spot_after.Statement.{statement}
+use Rattle.judgement.proofs.watches.spot_after.Tie as tie
+
+enum-told : tie.Need-enum-told
+enum-told c = search needs
+
+enum-told-2 : tie.Need-enum-told-2
+enum-told-2 c = search needs
+
+moved-requires : tie.Need-moved-requires
+moved-requires c κs = search needs
+
+enum-told-3 : tie.Need-enum-told-3
+enum-told-3 c = search needs
+
+enum-told-4 : tie.Need-enum-told-4
+enum-told-4 c = search needs
+
+enum-known-k : tie.Need-enum-known-k
+enum-known-k c = search needs
+
+shown-requires : tie.Need-shown-requires
+shown-requires c κs = search needs
+
+spot-char-requires : tie.Need-spot-char-requires
+spot-char-requires c κs = search needs
+
+returns : tie.Need-returns
+returns c = search needs
+
+returns-2 : tie.Need-returns-2
+returns-2 c = simp (c .before .enum-told2 .given .1, c .moved .ensures)
+
+returns-3 : tie.Need-returns-3
+returns-3 c = search needs
+
+returns-4 : tie.Need-returns-4
+returns-4 c = search needs
+
+returns-5 : tie.Need-returns-5
+returns-5 c = simp (c .before .before .before .k .given .1, c .spot-char .ensures, c .before .shown .ensures)
+
+pub spot-after-spec : {M : Type 1} → statement M
+spot-after-spec =
+    tie.close
+    (tie.spec
+    enum-told
+    enum-told-2
+    moved-requires
+    enum-told-3
+    enum-told-4
+    enum-known-k
+    shown-requires
+    spot-char-requires
+    returns
+    returns-2
+    returns-3
+    returns-4
+    returns-5)
