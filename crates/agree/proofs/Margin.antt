@@ -11,7 +11,7 @@ use borrow.Author.Tests.{leb-false, lt-leb}
 use Rattle.code.specs.Kinds.{kindOf, moves}
 use Rattle.settings.specs.Table.{soundSettings}
 use Rattle.settings.specs.Options.{endings, limit, endingCodes}
-use Rattle.printer.specs.Printer.{hearCount, hear, hears, landing, markAs, printsAs, prints, sheet}
+use Rattle.printer.specs.Printer.{hearCount, hear, hears, landing, markAs, printsAs, prints, printsAll}
 use Rattle.sender.specs.Record.{notes}
 use Rattle.sender.specs.Code.{sendAs}
 use Rattle.sender.specs.Ending.{endingOf, untilZero, due, ending, endingBefore}
@@ -22,7 +22,7 @@ use Rattle.agree.specs.Agrees.{ColumnAgrees, Agrees, Obeys}
 use Rattle.agree.specs.Margin.{LandsBelow, Below}
 use Rattle.agree.specs.Sure.{ColumnSure}
 use Rattle.agree.proofs.Agreement.{agreement}
-use Rattle.agree.proofs.Folds.{sheet-append, obeys-append, item-cases}
+use Rattle.agree.proofs.Folds.{prints-append, obeys-append, item-cases}
 use Rattle.agree.proofs.Prints.{code-prints}
 use Rattle.agree.proofs.Weights.{weightAt, weight, count-by, places}
 use Rattle.agree.proofs.Home.{HomeAt, Home, home-column, Sound, sound}
@@ -57,22 +57,22 @@ heavy Return case h = absurd (false≢true h)
 heavy (Shift to) case h = absurd (false≢true h)
 heavy (Char bell) case h = refl
 
-light-below : (limit : ℕ) (p : Printer) (cs : List ℕ) → p .count + weight cs ≤ limit → Below limit (sheet p cs)
+light-below : (limit : ℕ) (p : Printer) (cs : List ℕ) → p .count + weight cs ≤ limit → Below limit (printsAll p cs)
 light-below limit p [] h = tt
 light-below limit p (c ∷ cs) h =
-    below-append limit (prints p c) (sheet (hear p c) cs)
+    below-append limit (prints p c) (printsAll (hear p c) cs)
     (mark-below limit (kindOf c) (p .case) (p .count) c (λ m. omega (arith, heavy (kindOf c) (p .case) m)))
     (light-below limit (hear p c) cs (omega (arith, count-by p (kindOf c))))
 
 -- those that bring the carriage home
-home-below : (limit m : ℕ) → m < limit → (cs : List ℕ) → Home m cs → (p : Printer) → Below limit (sheet p cs)
+home-below : (limit m : ℕ) → m < limit → (cs : List ℕ) → Home m cs → (p : Printer) → Below limit (printsAll p cs)
 home-below limit m room [] h p = absurd h
 home-below limit m room (c ∷ cs) h p = go (kindOf c) refl h (home-below limit m room cs)
   where
-    still : (k : Kind) → kindOf c ≡ k → moves (p .case) k ≡ false → Below limit (sheet (hear p c) cs) → Below limit (sheet p (c ∷ cs))
-    still k e s t = below-append limit (prints p c) (sheet (hear p c) cs) (mark-below limit (kindOf c) (p .case) (p .count) c (λ h. absurd (false≢true (sym s ∙ rw e at h)))) t
+    still : (k : Kind) → kindOf c ≡ k → moves (p .case) k ≡ false → Below limit (printsAll (hear p c) cs) → Below limit (printsAll p (c ∷ cs))
+    still k e s t = below-append limit (prints p c) (printsAll (hear p c) cs) (mark-below limit (kindOf c) (p .case) (p .count) c (λ h. absurd (false≢true (sym s ∙ rw e at h)))) t
 
-    go : (k : Kind) → kindOf c ≡ k → HomeAt m k cs (Home m cs) → (Home m cs → (p : Printer) → Below limit (sheet p cs)) → Below limit (sheet p (c ∷ cs))
+    go : (k : Kind) → kindOf c ≡ k → HomeAt m k cs (Home m cs) → (Home m cs → (p : Printer) → Below limit (printsAll p cs)) → Below limit (printsAll p (c ∷ cs))
     go Still e h rest = still Still e refl (rest h (hear p c))
     go Space e h rest = absurd h
     go Return e h rest =
@@ -109,36 +109,36 @@ module _ (o : Settings) (t : Sound o) where
         go true e = omega (arith, due-ends r, t .least)
         go false e = not-due (r .column) on (rw h at e)
 
-    ending-below : (p : Printer) → Below (limit o) (sheet p (endingBefore o r w))
+    ending-below : (p : Printer) → Below (limit o) (printsAll p (endingBefore o r w))
     ending-below p = go (moves (w .case) (kindOf (w .code)) && due o (r .column))
       where
-        go : (b : Bool) → Below (limit o) (sheet p (ending o r b))
+        go : (b : Bool) → Below (limit o) (printsAll p (ending o r b))
         go true = home-below (limit o) 7 (omega (arith, t .least)) (endingOf o r (untilZero (endingCodes o))) (t .home r) p
         go false = tt
 
-    character-below : (p : Printer) → ColumnSure (r .column) → Obeys o p (character o r w) → Agrees r p → Below (limit o) (sheet p (character o r w))
+    character-below : (p : Printer) → ColumnSure (r .column) → Obeys o p (character o r w) → Agrees r p → Below (limit o) (printsAll p (character o r w))
     character-below p sure obeys a =
         let e = endingBefore o r w in
         let q = hears p e in
         let cs = sendAs o (notes o r e .case) (w .case) (w .code) in
         let b = agreement o r p e (obeys-append o p e cs obeys .0) a in
-        rw (sheet-append p e cs, code-prints o (notes o r e) q (w .case) (w .code) b)
-        (below-append (limit o) (sheet p e) (printsAs (kindOf (w .code)) (markAs (kindOf (w .code)) (w .case) (q .count) (w .code))) (ending-below p)
+        rw (prints-append p e cs, code-prints o (notes o r e) q (w .case) (w .code) b)
+        (below-append (limit o) (printsAll p e) (printsAs (kindOf (w .code)) (markAs (kindOf (w .code)) (w .case) (q .count) (w .code))) (ending-below p)
         (mark-below (limit o) (kindOf (w .code)) (w .case) (q .count) (w .code)
         (λ h. count-below (limit o) (notes o r e .column) (q .count) (t .most) (ending-keeps o r w sure) (b .column) (below-limit h))))
 
 -- every space and struck character of an item and of its ending
 module _ (o : Settings) (h : soundSettings o ≡ true) (eight : length (endingCodes o) ≡ 8) (on : endings o ≡ true) where
-  pub item-below : (s : Sender) (p : Printer) (w : Wanted) → ColumnSure (s .held .column) → Obeys o p (item o s w) → Agrees (s .held) p → Below (limit o) (sheet p (item o s w))
+  pub item-below : (s : Sender) (p : Printer) (w : Wanted) → ColumnSure (s .held .column) → Obeys o p (item o s w) → Agrees (s .held) p → Below (limit o) (printsAll p (item o s w))
   item-below s p w sure obeys a =
-      item-cases o s w (λ cs. Obeys o p cs → Below (limit o) (sheet p cs)) (λ h. tt) (λ q. character-below o (sound o h eight) on (s .held) w p sure q a) obeys
+      item-cases o s w (λ cs. Obeys o p cs → Below (limit o) (printsAll p cs)) (λ h. tt) (λ q. character-below o (sound o h eight) on (s .held) w p sure q a) obeys
 
-  pub items-below : (s : Sender) (p : Printer) (ws : List Wanted) → ColumnSure (s .held .column) → Obeys o p (items o s ws) → Agrees (s .held) p → Below (limit o) (sheet p (items o s ws))
+  pub items-below : (s : Sender) (p : Printer) (ws : List Wanted) → ColumnSure (s .held .column) → Obeys o p (items o s ws) → Agrees (s .held) p → Below (limit o) (printsAll p (items o s ws))
   items-below s p [] sure obeys a = tt
   items-below s p (w ∷ ws) sure obeys a =
       let cs = item o s w in
       let t = items o (afterItem o s w) ws in
       let both = obeys-append o p cs t obeys in
-      rw (sheet-append p cs t)
-      (below-append (limit o) (sheet p cs) (sheet (hears p cs) t) (item-below s p w sure (both .0) a)
+      rw (prints-append p cs t)
+      (below-append (limit o) (printsAll p cs) (printsAll (hears p cs) t) (item-below s p w sure (both .0) a)
       (items-below (afterItem o s w) (hears p cs) ws (column-told o s (w ∷ []) true (λ h. sure) refl) (both .1) (agreement o (s .held) p cs (both .0) a)))

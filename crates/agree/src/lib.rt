@@ -1,1 +1,1 @@
-// The sender's record and the printer agree, and what follows for the sheet: theorems alone.
+// The sender's record and the printer agree, and what follows for what is printed: theorems alone.

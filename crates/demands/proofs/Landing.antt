@@ -10,7 +10,7 @@ use Rattle.code.specs.Kinds.{kindOf, shifts}
 use Rattle.code.proofs.Laws.{kind-shift}
 use Rattle.settings.specs.Table.{soundSettings}
 use Rattle.settings.specs.Options.{endings, limit, onspace, onreturn, endingCodes}
-use Rattle.printer.specs.Printer.{hear, hears, prints, sheet}
+use Rattle.printer.specs.Printer.{hear, hears, prints, printsAll}
 use Rattle.sender.specs.Code.{isCase, unshift, sendKind, sendAs}
 use Rattle.sender.specs.Ending.{endingBefore}
 use Rattle.sender.specs.Item.{character, item, afterItem, items}
@@ -18,7 +18,7 @@ use Rattle.agree.specs.Agrees.{Agrees, Obeys}
 use Rattle.agree.specs.Margin.{Below}
 use Rattle.agree.specs.Sure.{ColumnSure, isReturn, holds}
 use Rattle.agree.proofs.Agreement.{agreement}
-use Rattle.agree.proofs.Folds.{sheet-shifts, obeys-append, item-cases}
+use Rattle.agree.proofs.Folds.{prints-shifts, obeys-append, item-cases}
 use Rattle.agree.proofs.Told.{column-told}
 use Rattle.agree.proofs.Margin.{item-below}
 use Rattle.demands.specs.Names.{Case, Kind, Still, Space, Return, Shift, Char, Settings, Known, Column, Record, Wanted, Sender, Printer, Mark}
@@ -31,10 +31,10 @@ below-split limit (x ∷ xs) ys h = let t = below-split limit xs ys (h .1) in ((
 
 module _ (limit : ℕ) where
   -- all of it below is enough
-  below-within : (b : Bool) (p : Printer) (cs : List ℕ) → Below limit (sheet p cs) → Within limit b p cs
+  below-within : (b : Bool) (p : Printer) (cs : List ℕ) → Below limit (printsAll p cs) → Within limit b p cs
   below-within b p [] h = tt
   below-within b p (c ∷ cs) h =
-      let t = below-split limit (prints p c) (sheet (hear p c) cs) h in
+      let t = below-split limit (prints p c) (printsAll (hear p c) cs) h in
       (λ (r : b ≡ true). t .0, below-within (b || isReturn (kindOf c)) (hear p c) cs (t .1))
 
   within-append : (b : Bool) (p : Printer) (xs ys : List ℕ) → Within limit b p xs → Within limit (b || holds isReturn xs) (hears p xs) ys → Within limit b p (xs ++ ys)
@@ -42,7 +42,7 @@ module _ (limit : ℕ) where
   within-append b p (x ∷ xs) ys h t = (h .0, within-append (b || isReturn (kindOf x)) (hear p x) xs ys (h .1) (rw (← or-assoc b (isReturn (kindOf x)) (holds isReturn xs)) at t))
 
   shifts-within : (b : Bool) (p : Printer) (ts : List Case) → Within limit b p (shifts ts)
-  shifts-within b p ts = below-within b p (shifts ts) (rw (sheet-shifts p ts) tt)
+  shifts-within b p ts = below-within b p (shifts ts) (rw (prints-shifts p ts) tt)
 
   none : {A : Type 0} → false ≡ true → A
   none h = absurd (false≢true h)

@@ -12,11 +12,11 @@ use Rattle.code.specs.Kinds.{kindOf, strikes}
 use Rattle.command.specs.Read.{read, textOf}
 use Rattle.command.specs.Reads.{made}
 use Rattle.settings.specs.Options.{reports}
-use Rattle.printer.specs.Printer.{advanced, hearKind, hear, hears, from, markAs, printsAs, sheet}
+use Rattle.printer.specs.Printer.{advanced, hearKind, hear, hears, from, markAs, printsAs, printsAll}
 use Rattle.sender.specs.Item.{items, afterItems, fresh}
 use Rattle.agree.specs.Agrees.{Agrees, ObeysAt, Obeys}
 use Rattle.agree.proofs.Agreement.{agreement, unknown-agrees}
-use Rattle.agree.proofs.Folds.{sheet-append, items-noted}
+use Rattle.agree.proofs.Folds.{prints-append, items-noted}
 use Rattle.step.specs.State.{withReader, withReading}
 use Rattle.step.specs.Step.{readAs, readCase, hosted, lined, tued, step, Event, run}
 use Rattle.linebox.specs.Ends.{events, firstsOf, Cut, Fed, feeding}
@@ -41,15 +41,15 @@ abbrev follower : Case → ℕ → Printer
 follower case n = from case n false false
 
 -- is the box's own reader of line codes
-line-reads : (port speed : ℕ) (cs : List ℕ) (s : State) (n : ℕ) → s .connection ≡ Mode1 port speed → reports (s .settings) ≡ false → firstsOf Line s cs ≡ charactersOf (sheet (follower (s .reading) n) cs)
+line-reads : (port speed : ℕ) (cs : List ℕ) (s : State) (n : ℕ) → s .connection ≡ Mode1 port speed → reports (s .settings) ≡ false → firstsOf Line s cs ≡ charactersOf (printsAll (follower (s .reading) n) cs)
 line-reads port speed [] s n e off = refl
 line-reads port speed (c ∷ cs) s n e off =
     ap (λ (k : Connection). lined k s c .host ++ firstsOf Line (lined k s c .state) cs) e
     ∙ ap (λ (b : Bool). readAs b (s .reading) (kindOf c) c ++ firstsOf Line (withReading s (readCase (s .reading) (kindOf c))) cs) off
     ∙ go (kindOf c) (λ case m. line-reads port speed cs (withReading s case) m e off)
   where
-    go : (k : Kind) → ((case : Case) (m : ℕ) → firstsOf Line (withReading s case) cs ≡ charactersOf (sheet (follower case m) cs))
-        → readAs false (s .reading) k c ++ firstsOf Line (withReading s (readCase (s .reading) k)) cs ≡ charactersOf (printsAs k (markAs k (s .reading) n c) ++ sheet (hearKind (follower (s .reading) n) k) cs)
+    go : (k : Kind) → ((case : Case) (m : ℕ) → firstsOf Line (withReading s case) cs ≡ charactersOf (printsAll (follower case m) cs))
+        → readAs false (s .reading) k c ++ firstsOf Line (withReading s (readCase (s .reading) k)) cs ≡ charactersOf (printsAs k (markAs k (s .reading) n c) ++ printsAll (hearKind (follower (s .reading) n) k) cs)
     go Still rest = ap (λ (r : List ℕ). rowAt (s .reading) c ∷ r) (rest (s .reading) n)
     go Space rest = ap (λ (r : List ℕ). rowAt (s .reading) c ∷ r) (rest (s .reading) (n + 1))
     go Return rest = ap (λ (r : List ℕ). rowAt (s .reading) c ∷ r) (rest (s .reading) 0)
@@ -78,20 +78,20 @@ hears-onreturn p [] = refl
 hears-onreturn p (c ∷ cs) = hears-onreturn (hear p c) cs
 
 -- Plain events: what it reads of them is what they ask for.
-plain-reads : (s : State) (p : Printer) (es : List Event) → p .onspace ≡ false → p .onreturn ≡ false → Agrees (s .sender .held) p → AllPlain s es → charactersOf (sheet p (lines s es)) ≡ asksAll s es
+plain-reads : (s : State) (p : Printer) (es : List Event) → p .onspace ≡ false → p .onreturn ≡ false → Agrees (s .sender .held) p → AllPlain s es → charactersOf (printsAll p (lines s es)) ≡ asksAll s es
 plain-reads s p [] e f a h = refl
 plain-reads s p (x ∷ es) e f a h =
     let o = s .settings in
     let ws = itemsOf s x in
     let d = step (x .stream) s (x .byte) in
     let obeys : Obeys o p (items o (s .sender) ws) = never o p (items o (s .sender) ws) e f in
-    let one : charactersOf (sheet p (d .line)) ≡ asks s x =
+    let one : charactersOf (printsAll p (d .line)) ≡ asks s x =
     plain-printed o (h .0 .endings) p (d .line) (asks s x) (rw (line-items s x, ← items-read s x) (items-printed o (s .sender) p ws obeys a)) in
     let after : d .state .sender ≡ afterItems o (s .sender) ws = sender-items s x ∙ ap (λ (b : Bool). cond b fresh (afterItems o (s .sender) ws)) (h .0 .stays) in
     let heard : Agrees (d .state .sender .held) (hears p (d .line)) = rw (after, items-noted o (s .sender) ws, line-items s x) (agreement o (s .sender .held) p (items o (s .sender) ws) obeys a) in
-    ap charactersOf (sheet-append p (d .line) (lines (d .state) es))
-    ∙ characters-append (sheet p (d .line)) (sheet (hears p (d .line)) (lines (d .state) es))
-    ∙ ap (λ (r : List ℕ). r ++ charactersOf (sheet (hears p (d .line)) (lines (d .state) es))) one
+    ap charactersOf (prints-append p (d .line) (lines (d .state) es))
+    ∙ characters-append (printsAll p (d .line)) (printsAll (hears p (d .line)) (lines (d .state) es))
+    ∙ ap (λ (r : List ℕ). r ++ charactersOf (printsAll (hears p (d .line)) (lines (d .state) es))) one
     ∙ ap (λ (r : List ℕ). asks s x ++ r) (plain-reads (d .state) (hears p (d .line)) es (hears-onspace p (d .line) ∙ e) (hears-onreturn p (d .line) ∙ f) heard (h .1))
 
 -- Mode 1 stays.
@@ -195,7 +195,7 @@ module _ (s : State) (e : Event) (j : Joins s e) where
   reads-back [] h = refl
   reads-back (x ∷ es) h =
       line-reads (j .port) (j .speed) (lines joined (x ∷ es)) joined 0 (j .mode1) (h .0 .reports)
-      ∙ ap (λ (case : Case). charactersOf (sheet (follower case 0) (lines joined (x ∷ es)))) (fresh-by (e .stream) s (e .byte) (j .connects) .0)
+      ∙ ap (λ (case : Case). charactersOf (printsAll (follower case 0) (lines joined (x ∷ es)))) (fresh-by (e .stream) s (e .byte) (j .connects) .0)
       ∙ plain-reads joined (follower Letters 0) (x ∷ es) refl refl (joined-agrees (follower Letters 0)) h
       ∙ asks-text (j .port) (j .speed) joined (x ∷ es) (j .mode1) h
 

@@ -8,14 +8,14 @@ use Rattle.laws.proofs.Both.{both}
 use lib.Dec.{leb}
 use Rattle.code.specs.Kinds.{kindOf, dependent, moves, shift, shifts}
 use Rattle.settings.specs.Options.{endings, limit, onspace, onreturn, endingCodes}
-use Rattle.printer.specs.Printer.{hear, hears, markAs, printsAs, sheet}
+use Rattle.printer.specs.Printer.{hear, hears, markAs, printsAs, printsAll}
 use Rattle.sender.specs.Record.{notes}
 use Rattle.sender.specs.Code.{isCase, shiftTo, unshift, sendKind, sendAs}
 use Rattle.sender.specs.Ending.{onRecord, endingCode, endingOf, untilZero, due, ending, endingBefore}
 use Rattle.sender.specs.Item.{character, lastOf, item, afterItem, items}
 use Rattle.agree.specs.Agrees.{Agrees, Obeys}
 use Rattle.agree.proofs.Agreement.{agreement}
-use Rattle.agree.proofs.Folds.{sheet-append, obeys-append, item-cases}
+use Rattle.agree.proofs.Folds.{prints-append, obeys-append, item-cases}
 use Rattle.agree.proofs.Prints.{code-prints}
 use Rattle.demands.specs.Names.{Letters, Figures, Kind, Still, Space, Return, Shift, Char, Settings, Known, Is, Column, Record, Wanted, Sender, Printer, Mark}
 use Rattle.demands.specs.Names.known
@@ -61,12 +61,12 @@ module _ (o : Settings) where
   printed-none : (p : Printer) → Printed o p [] []
   printed-none p = record { stretches = []; whole = refl; endings = tt; own = refl }
 
-  own-printed : (p : Printer) (cs mine : List ℕ) → charactersOf (sheet p cs) ≡ mine → Printed o p cs mine
+  own-printed : (p : Printer) (cs mine : List ℕ) → charactersOf (printsAll p cs) ≡ mine → Printed o p cs mine
   own-printed p cs mine h = record {
     stretches = record { ending = false; codes = cs } ∷ [];
     whole = sym (append-nil cs);
     endings = (λ e. absurd (false≢true e), tt);
-    own = append-nil (charactersOf (sheet p cs)) ∙ h;
+    own = append-nil (charactersOf (printsAll p cs)) ∙ h;
   }
 
   -- String 90 as it goes out.
@@ -166,20 +166,20 @@ module _ (o : Settings) where
 
   -- With 49 off there is no ending, and all that is printed was asked for.
   module _ (off : endings o ≡ false) where
-    all-own : (p : Printer) (xs : List Stretch) → Endings o xs → ownPrints p xs ≡ charactersOf (sheet p (codesIn xs))
+    all-own : (p : Printer) (xs : List Stretch) → Endings o xs → ownPrints p xs ≡ charactersOf (printsAll p (codesIn xs))
     all-own p [] h = refl
     all-own p (x ∷ xs) h =
         go (x .ending) refl
-        ∙ ap (λ (u : List ℕ). charactersOf (sheet p (x .codes)) ++ u) (all-own (hears p (x .codes)) xs (h .1))
-        ∙ sym (characters-append (sheet p (x .codes)) (sheet (hears p (x .codes)) (codesIn xs)))
-        ∙ ap charactersOf (sym (sheet-append p (x .codes) (codesIn xs)))
+        ∙ ap (λ (u : List ℕ). charactersOf (printsAll p (x .codes)) ++ u) (all-own (hears p (x .codes)) xs (h .1))
+        ∙ sym (characters-append (printsAll p (x .codes)) (printsAll (hears p (x .codes)) (codesIn xs)))
+        ∙ ap charactersOf (sym (prints-append p (x .codes) (codesIn xs)))
       where
         rest : List ℕ
         rest = ownPrints (hears p (x .codes)) xs
 
-        go : (b : Bool) → x .ending ≡ b → cond b [] (charactersOf (sheet p (x .codes))) ++ rest ≡ charactersOf (sheet p (x .codes)) ++ rest
+        go : (b : Bool) → x .ending ≡ b → cond b [] (charactersOf (printsAll p (x .codes))) ++ rest ≡ charactersOf (printsAll p (x .codes)) ++ rest
         go true e = absurd (false≢true (sym off ∙ h .0 e .0))
         go false e = refl
 
-    pub plain-printed : (p : Printer) (cs mine : List ℕ) → Printed o p cs mine → charactersOf (sheet p cs) ≡ mine
-    plain-printed p cs mine h = ap (λ (u : List ℕ). charactersOf (sheet p u)) (h .whole) ∙ sym (all-own p (h .stretches) (h .endings)) ∙ h .own
+    pub plain-printed : (p : Printer) (cs mine : List ℕ) → Printed o p cs mine → charactersOf (printsAll p cs) ≡ mine
+    plain-printed p cs mine h = ap (λ (u : List ℕ). charactersOf (printsAll p u)) (h .whole) ∙ sym (all-own p (h .stretches) (h .endings)) ∙ h .own

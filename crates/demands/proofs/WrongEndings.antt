@@ -12,7 +12,7 @@ use Rattle.code.specs.Kinds.{kindOf}
 use Rattle.code.proofs.Laws.{kind-shift}
 use Rattle.settings.specs.Table.{factory}
 use Rattle.settings.specs.Options.{endings, endingCodes}
-use Rattle.printer.specs.Printer.{hear, hears, markAs, printsAs, sheet}
+use Rattle.printer.specs.Printer.{hear, hears, markAs, printsAs, printsAll}
 use Rattle.sender.specs.Ending.{untilZero}
 use Rattle.demands.specs.Names.{Letters, Kind, Still, Space, Return, Shift, Char, Settings, Printer, Mark}
 use Rattle.demands.specs.Printing.{Stretch, codesIn, GoesOut, Endings, charactersOf, ownPrints, Printed}
@@ -42,9 +42,9 @@ marked-at Return m ms = omega arith
 marked-at (Shift to) m ms = omega arith
 marked-at (Char bell) m ms = omega arith
 
-marked : (p : Printer) (cs : List ℕ) → length (charactersOf (sheet p cs)) ≡ marks cs
+marked : (p : Printer) (cs : List ℕ) → length (charactersOf (printsAll p cs)) ≡ marks cs
 marked p [] = refl
-marked p (c ∷ cs) = let k = kindOf c in rw (marked-at k (markAs k (p .case) (p .count) c) (sheet (hear p c) cs), marked (hear p c) cs)
+marked p (c ∷ cs) = let k = kindOf c in rw (marked-at k (markAs k (p .case) (p .count) c) (printsAll (hear p c) cs), marked (hear p c) cs)
 
 -- how many of the stretches are endings
 abbrev endingsIn : List Stretch → ℕ
@@ -76,9 +76,9 @@ module _ (o : Settings) where
         rest = ownPrints (hears p (x .codes)) xs
 
         go : (b : Bool) → (b ≡ true → (endings o ≡ true) × GoesOut o (untilZero (endingCodes o)) (x .codes)) → length rest + 3 * endingsIn xs ≡ marks (codesIn xs)
-            → length (cond b [] (charactersOf (sheet p (x .codes))) ++ rest) + 3 * (cond b 1 0 + endingsIn xs) ≡ marks (x .codes ++ codesIn xs)
+            → length (cond b [] (charactersOf (printsAll p (x .codes))) ++ rest) + 3 * (cond b 1 0 + endingsIn xs) ≡ marks (x .codes ++ codesIn xs)
         go true e t = omega (arith, t, three, marks-append (x .codes) (codesIn xs), goes-marks (e refl .1))
-        go false e t = omega (arith, t, marks-append (x .codes) (codesIn xs), marked p (x .codes), length-append (charactersOf (sheet p (x .codes))) rest)
+        go false e t = omega (arith, t, marks-append (x .codes) (codesIn xs), marked p (x .codes), length-append (charactersOf (printsAll p (x .codes))) rest)
 
     code-count : (xs : List Stretch) → Endings o xs → 5 * endingsIn xs ≤ length (codesIn xs)
     code-count [] h = omega arith

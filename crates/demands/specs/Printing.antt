@@ -5,7 +5,7 @@ use mathlib.Core.Bool.{Bool, true, cond, _||_}
 use mathlib.Core.List.{List, [], _∷_, _++_}
 use Rattle.code.specs.Kinds.{kindOf, dependent, shift}
 use Rattle.settings.specs.Options.{endings, limit, onspace, onreturn, endingCodes}
-use Rattle.printer.specs.Printer.{hear, hears, prints, sheet}
+use Rattle.printer.specs.Printer.{hear, hears, prints, printsAll}
 use Rattle.sender.specs.Ending.{untilZero}
 use Rattle.agree.specs.Agrees.{Agrees}
 use Rattle.agree.specs.Margin.{Below}
@@ -52,7 +52,7 @@ charactersOf (m ∷ ms) = m .character ∷ charactersOf ms
 -- what is printed for the byte's own, by the printer that hears all of it
 abbrev pub ownPrints : Printer → List Stretch → List ℕ
 ownPrints p [] = []
-ownPrints p (x ∷ xs) = cond (x .ending) [] (charactersOf (sheet p (x .codes))) ++ ownPrints (hears p (x .codes)) xs
+ownPrints p (x ∷ xs) = cond (x .ending) [] (charactersOf (printsAll p (x .codes))) ++ ownPrints (hears p (x .codes)) xs
 
 -- codes print exactly what is asked for, beside endings
 pub record Printed (o : Settings) (p : Printer) (codes asked : List ℕ) : Type 0 where

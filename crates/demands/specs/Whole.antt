@@ -4,7 +4,7 @@ use mathlib.Core.Path.{_≡_}
 use mathlib.Core.Bool.{false}
 use mathlib.Core.List.{List, [], _∷_, _++_}
 use Rattle.settings.specs.Options.{endings}
-use Rattle.printer.specs.Printer.{sheet}
+use Rattle.printer.specs.Printer.{printsAll}
 use Rattle.step.specs.Step.{step, Event}
 use Rattle.demands.specs.Names.{Printer, Mark, State}
 use Rattle.demands.specs.Asks.{asks}
@@ -17,9 +17,9 @@ ownOf joining n x [] h = []
 ownOf joining n x (e ∷ es) h = ownPrints (x .printer) (h .0 .printed .stretches) ++ ownOf joining (suc n) (turned x e (joining n)) es (h .1)
 
 -- all that is printed
-abbrev pub sheetOf : (ℕ → Printer) → ℕ → Scene → List Event → List Mark
-sheetOf joining n x [] = []
-sheetOf joining n x (e ∷ es) = sheet (x .printer) (does x e .line) ++ sheetOf joining (suc n) (turned x e (joining n)) es
+abbrev pub marksOf : (ℕ → Printer) → ℕ → Scene → List Event → List Mark
+marksOf joining n x [] = []
+marksOf joining n x (e ∷ es) = printsAll (x .printer) (does x e .line) ++ marksOf joining (suc n) (turned x e (joining n)) es
 
 -- all that is asked for
 abbrev pub asksAll : State → List Event → List ℕ

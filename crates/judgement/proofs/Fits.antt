@@ -20,7 +20,7 @@ use Rattle.judgement.specs.Stop.{clip, hearStop}
 use Rattle.judgement.specs.Watch.{shownBy, within, moved, blurred, spotChar, watchKind, watch}
 use Rattle.judgement.specs.Verdict.{ownChar, own, lands, signAs, meantBy, struckBy}
 use Rattle.judgement.specs.Line.{final}
-use Rattle.judgement.specs.Sheet.{start, judgement}
+use Rattle.judgement.specs.Page.{start, judgement}
 use Rattle.judgement.specs.Fits.{FitsCase, FitsSpot, FitsSign, sendCase, Fits, Claims}
 
 -- The place.

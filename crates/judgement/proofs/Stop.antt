@@ -7,9 +7,9 @@ use mathlib.Core.Bool.{Bool, true, false}
 use mathlib.Core.List.{List, [], _∷_, _++_}
 use native.Mathlib.Omega.{arith}
 use Rattle.code.specs.Kinds.{kindOf, strikes, moves}
-use Rattle.printer.specs.Printer.{unshifted, hearKind, hear, hears, advanced, from, landing, markAs, printsAs, prints, sheet}
+use Rattle.printer.specs.Printer.{unshifted, hearKind, hear, hears, advanced, from, landing, markAs, printsAs, prints, printsAll}
 use Rattle.judgement.specs.Names.{Kind, Still, Space, Return, Shift, Char, Printer, Case, Mark}
-use Rattle.judgement.specs.Stop.{clip, hearStop, hearsStop, sheetStop, clipPlace, clipMark, clipMarks, Within}
+use Rattle.judgement.specs.Stop.{clip, hearStop, hearsStop, printsAllStop, clipPlace, clipMark, clipMarks, Within}
 
 advanced-clip : (stop n : ℕ) (b : Bool) → min stop (advanced b (min stop n)) ≡ min stop (advanced b n)
 advanced-clip stop n true = omega arith
@@ -55,11 +55,11 @@ marks-append stop [] ys = refl
 marks-append stop (x ∷ xs) ys = ap (_∷_ (clipMark stop x)) (marks-append stop xs ys)
 
 -- and what it prints lands where the other's does, but no further than the stop
-pub prints-there : (stop : ℕ) (p : Printer) (cs : List ℕ) → sheetStop stop (clip stop p) cs ≡ clipMarks stop (sheet p cs)
+pub prints-there : (stop : ℕ) (p : Printer) (cs : List ℕ) → printsAllStop stop (clip stop p) cs ≡ clipMarks stop (printsAll p cs)
 prints-there stop p [] = refl
 prints-there stop p (c ∷ cs) =
-    let rest : sheetStop stop (hearStop stop (clip stop p) c) cs ≡ clipMarks stop (sheet (hear p c) cs) = rw (hear-clip stop p c) (prints-there stop (hear p c) cs) in
-    rw (prints-clip stop p c, rest, marks-append stop (prints p c) (sheet (hear p c) cs))
+    let rest : printsAllStop stop (hearStop stop (clip stop p) c) cs ≡ clipMarks stop (printsAll (hear p c) cs) = rw (hear-clip stop p c) (prints-there stop (hear p c) cs) in
+    rw (prints-clip stop p c, rest, marks-append stop (prints p c) (printsAll (hear p c) cs))
 
 -- A stop that is never passed.
 
@@ -77,6 +77,6 @@ pub same-stands : (stop : ℕ) (p : Printer) (cs : List ℕ) → Within stop p c
 same-stands stop p [] h = refl
 same-stands stop p (c ∷ cs) h = rw (one stop p c cs (h .1)) (same-stands stop (hear p c) cs (h .1))
 
-pub same-prints : (stop : ℕ) (p : Printer) (cs : List ℕ) → Within stop p cs → sheetStop stop p cs ≡ sheet p cs
+pub same-prints : (stop : ℕ) (p : Printer) (cs : List ℕ) → Within stop p cs → printsAllStop stop p cs ≡ printsAll p cs
 same-prints stop p [] h = refl
 same-prints stop p (c ∷ cs) h = rw (one stop p c cs (h .1)) (ap (_++_ (prints p c)) (same-prints stop (hear p c) cs (h .1)))

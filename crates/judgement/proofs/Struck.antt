@@ -14,14 +14,14 @@ use Rattle.code.specs.Kinds.{kindOf, strikes, moves}
 use Rattle.printer.specs.Printer.{landing}
 use Rattle.judgement.specs.Names.{Case, Letters, Figures, Kind, Still, Space, Return, Shift, Char, Printer, Known, Spot, At, From, Landing, Nowhere, There, Somewhere, Verdict, Watch, Line}
 use Rattle.judgement.specs.Names.known
-use Rattle.judgement.specs.Stop.{sheetStop, hits, times, NoReturn}
+use Rattle.judgement.specs.Stop.{printsAllStop, hits, times, NoReturn}
 use Rattle.judgement.specs.Watch.{shownBy, watch}
 use Rattle.judgement.specs.Verdict.{numberOf, ownChar, own, landsChar, lands, strikeOf}
 use Rattle.judgement.specs.Line.{inkOf, standAfter, strikeAt, strike}
 use Rattle.judgement.specs.Struck.{lineOf, landsAt, struckAt, standAt, standsAt}
 use Rattle.judgement.specs.Fits.{FitsCase, FitsSpot, Fits}
 use Rattle.judgement.proofs.Fits.{fits}
-use Rattle.judgement.proofs.Once.{sheet-times, once}
+use Rattle.judgement.proofs.Once.{prints-times, once}
 
 -- One place of the line.
 
@@ -170,9 +170,9 @@ kind-hits n (Shift to) f = omega arith
 kind-hits {w} {p} {s} n (Char bell) f = char-hits n (p .count) bell (shownBy (w .fell) (w .meant)) (p .case) (w .spot) (f .shown) (f .spot)
 
 -- what is judged to be struck at a place, the printer with a stop strikes there
-pub struck-there : {w : Watch} {p : Printer} {s : Case} (n : ℕ) (cs : List ℕ) → Fits w p s → struckAt n w cs ≤ times n (sheetStop (w .stop) p cs)
+pub struck-there : {w : Watch} {p : Printer} {s : Case} (n : ℕ) (cs : List ℕ) → Fits w p s → struckAt n w cs ≤ times n (printsAllStop (w .stop) p cs)
 struck-there n [] f = omega arith
-struck-there {w} {p} {s} n (c ∷ cs) f = omega (arith, kind-hits n (kindOf c) f, struck-there n cs (fits c f), sheet-times (w .stop) n p c cs)
+struck-there {w} {p} {s} n (c ∷ cs) f = omega (arith, kind-hits n (kindOf c) f, struck-there n cs (fits c f), prints-times (w .stop) n p c cs)
 
 -- between two returns what lands before the stop is not struck over
 pub before-stop : {w : Watch} {p : Printer} {s : Case} (n : ℕ) (l : Line) (cs : List ℕ) → Fits w p s → NoReturn cs → n < w .stop → n < length (l .stand) → getD (l .stand) n 0 ≡ 0 → getD (lineOf w l cs .stand) n 0 ≡ 3 → ⊥

@@ -11,21 +11,21 @@ use lib.Dec.{eqb}
 use lib.ListN.{length, getD, getD-replicate}
 use borrow.Author.Tests.{eqb-true, eqb-false, eq-eqb}
 use Rattle.code.specs.Kinds.{kindOf}
-use Rattle.judgement.specs.Names.{Case, Letters, Figures, Kind, Still, Space, Return, Shift, Char, Printer, Known, Spot, At, From, Landing, Nowhere, There, Somewhere, Verdict, Watch, Line, Tally, Sheet}
+use Rattle.judgement.specs.Names.{Case, Letters, Figures, Kind, Still, Space, Return, Shift, Char, Printer, Known, Spot, At, From, Landing, Nowhere, There, Somewhere, Verdict, Watch, Line, Tally, Page}
 use Rattle.judgement.specs.Names.known
 use Rattle.judgement.specs.Names.verdict
 use Rattle.judgement.specs.Watch.{shownBy, watch}
 use Rattle.judgement.specs.Verdict.{numberOf, ownChar, own, landsChar, lands, strikeOf}
 use Rattle.judgement.specs.Line.{plus, bare, inkOf, standAfter, strikeAt, strike, finalAt, final, standing, countOf, alone, tallyBy, tallyOf}
-use Rattle.judgement.specs.Sheet.{feeds, sheetAfter}
-use Rattle.judgement.specs.Struck.{NoFeed, sheetAfterAll, watches, lineOf, landsAt, struckAt, standAt, standsAt, judged}
+use Rattle.judgement.specs.Page.{feeds, pageAfter}
+use Rattle.judgement.specs.Struck.{NoFeed, pageAfterAll, watches, lineOf, landsAt, struckAt, standAt, standsAt, judged}
 use Rattle.judgement.specs.Fits.{FitsSpot, Fits}
 use Rattle.judgement.proofs.Fits.{fits}
 use Rattle.judgement.proofs.Struck.{single, single-lands, spoiled, marked, unmarked, twice, place-stands, strike-length}
 use Rattle.judgement.proofs.Sums.{sum, one, sum-add, sum-same, sum-none, sum-pick, count-sum}
 
 -- a code that does not feed
-abbrev onLine : Sheet → ℕ → Sheet
+abbrev onLine : Page → ℕ → Page
 onLine s c = record { watch = watch (s .watch) c; line = strike (s .line) (strikeOf (s .watch) c); total = s .total }
 
 -- A weight for each code that is struck at a place, by the place.
@@ -410,16 +410,16 @@ module _ {w : Watch} {p : Printer} {s : Case} (l : Line) (cs : List ℕ) (f : Fi
       go true e = rw (over-right, plain-right 1 refl refl e, plain-right 2 refl refl e, plain-right 4 refl refl e)
       go false e = rw (over-right, unknown-right e, ← none-right 1 refl refl refl e, ← none-right 2 refl refl refl e)
 
--- The sheet.
+-- The page.
 
 -- each line begins clean
 pub bare-clean : Clean bare
 bare-clean = record { size = refl; clear = λ n h. getD-replicate 256 n 0 0 h; landed = refl; strays = refl }
 
 -- codes that do not feed stay on the line
-pub line-taken : (s : Sheet) (cs : List ℕ) → NoFeed cs → sheetAfterAll s cs ≡ record { watch = watches (s .watch) cs; line = lineOf (s .watch) (s .line) cs; total = s .total }
+pub line-taken : (s : Page) (cs : List ℕ) → NoFeed cs → pageAfterAll s cs ≡ record { watch = watches (s .watch) cs; line = lineOf (s .watch) (s .line) cs; total = s .total }
 line-taken s [] h = refl
 line-taken s (c ∷ cs) h = rw (one-taken s c (h .0)) (line-taken (onLine s c) cs (h .1))
   where
-    one-taken : (s : Sheet) (c : ℕ) → feeds c ≡ false → sheetAfter s c ≡ onLine s c
+    one-taken : (s : Page) (c : ℕ) → feeds c ≡ false → pageAfter s c ≡ onLine s c
     one-taken s c e = rw e

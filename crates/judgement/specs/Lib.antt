@@ -3,6 +3,6 @@ pub mod Stop
 pub mod Watch
 pub mod Verdict
 pub mod Line
-pub mod Sheet
+pub mod Page
 pub mod Fits
 pub mod Struck

@@ -24,6 +24,6 @@ pub use Rattle.judgement.specs.declared.Strike.{Strike}
 pub use Rattle.judgement.specs.declared.Judgement.{Judgement}
 pub use Rattle.judgement.specs.declared.Tally.{Tally}
 pub use Rattle.judgement.specs.declared.Line.{Line}
-pub use Rattle.judgement.specs.declared.Sheet.{Sheet}
+pub use Rattle.judgement.specs.declared.Page.{Page}
 pub use Rattle.judgement.specs.declared.Heard.{Heard}
 pub use Rattle.judgement.specs.declared.Run.{Run}

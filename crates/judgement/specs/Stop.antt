@@ -22,9 +22,9 @@ hearsStop stop p [] = p
 hearsStop stop p (c ∷ cs) = hearsStop stop (hearStop stop p c) cs
 
 -- all that many codes print
-abbrev pub sheetStop : ℕ → Printer → List ℕ → List Mark
-sheetStop stop p [] = []
-sheetStop stop p (c ∷ cs) = prints p c ++ sheetStop stop (hearStop stop p c) cs
+abbrev pub printsAllStop : ℕ → Printer → List ℕ → List Mark
+printsAllStop stop p [] = []
+printsAllStop stop p (c ∷ cs) = prints p c ++ printsAllStop stop (hearStop stop p c) cs
 
 -- What the laws speak of.
 

@@ -5,11 +5,11 @@ use mathlib.Core.Bool.{false, cond}
 use mathlib.Core.List.{List, [], _∷_}
 use lib.Dec.{eqb}
 use Rattle.code.specs.Kinds.{kindOf}
-use Rattle.judgement.specs.Names.{Landing, Nowhere, There, Somewhere, Verdict, Watch, Line, Sheet}
+use Rattle.judgement.specs.Names.{Landing, Nowhere, There, Somewhere, Verdict, Watch, Line, Page}
 use Rattle.judgement.specs.Watch.{watch}
 use Rattle.judgement.specs.Verdict.{numberOf, lands, own, strikeOf}
 use Rattle.judgement.specs.Line.{standAfter, strike}
-use Rattle.judgement.specs.Sheet.{feeds, sheetAfter, judgement}
+use Rattle.judgement.specs.Page.{feeds, pageAfter, judgement}
 
 -- the line after codes none of which feeds
 abbrev pub lineOf : Watch → Line → List ℕ → Line
@@ -41,10 +41,10 @@ abbrev pub judged : ℕ → Watch → Line → List ℕ → ℕ
 judged v w l [] = 0
 judged v w l (c ∷ cs) = cond (eqb (numberOf (judgement w l c .verdict)) v) 1 0 + judged v (watch w c) l cs
 
--- the sheet and what is known after many codes
-abbrev pub sheetAfterAll : Sheet → List ℕ → Sheet
-sheetAfterAll s [] = s
-sheetAfterAll s (c ∷ cs) = sheetAfterAll (sheetAfter s c) cs
+-- the page and what is known after many codes
+abbrev pub pageAfterAll : Page → List ℕ → Page
+pageAfterAll s [] = s
+pageAfterAll s (c ∷ cs) = pageAfterAll (pageAfter s c) cs
 
 abbrev pub watches : Watch → List ℕ → Watch
 watches w [] = w

@@ -3,7 +3,7 @@
 use code::Case;
 
 pub mod lines;
-pub mod sheets;
+pub mod pages;
 mod strikes;
 mod watches;
 
@@ -90,22 +90,22 @@ pub struct Line {
     pub strays: u64,
 }
 
-// The record as far as it was read: what is known, the line that is not ended, and the totals of those that are.
-pub struct Sheet {
+// The page as far as the record was read: what is known, the line that is not ended, and the totals of those that are.
+pub struct Page {
     pub watch: Watch,
     pub line: Line,
     pub total: Tally,
 }
 
-// The sheet after a code.
+// The page after a code.
 pub struct Heard {
     pub answer: Answer,
-    pub sheet: Sheet,
+    pub page: Page,
 }
 
-// The sheet after the codes that were taken.
+// The page after the codes that were taken.
 pub struct Run {
     pub answer: Answer,
     pub taken: usize,
-    pub sheet: Sheet,
+    pub page: Page,
 }

@@ -2,7 +2,7 @@
 use Prim.Native.Nat.{ℕ, _+_, _%_, _^_}
 use mathlib.Core.Bool.{Bool, true, false, cond}
 use mathlib.Core.List.{List, [], _∷_}
-use Rattle.judgement.specs.Sheet.{feeds, step}
+use Rattle.judgement.specs.Page.{feeds, step}
 use Rattle.words.specs.declared.Reader.{Reader}
 use Rattle.words.specs.declared.Item.{Item}
 use Rattle.words.specs.declared.Item.the-variants as item
@@ -11,15 +11,15 @@ use Rattle.paper.specs.declared.reading.Record.{Record}
 
 -- the record that goes no further
 abbrev pub stopped : Record → Record
-stopped r = record { reader = r .reader; sheet = r .sheet; number = r .number; goes = false }
+stopped r = record { reader = r .reader; page = r .page; number = r .number; goes = false }
 
 -- the record with the words read, and whether to go on
 abbrev pub readTo : Record → Reader → Bool → Record
-readTo r q goes = record { reader = q; sheet = r .sheet; number = r .number; goes = goes }
+readTo r q goes = record { reader = q; page = r .page; number = r .number; goes = goes }
 
 -- after a code; a line feed ends a line
 abbrev pub afterCode : Record → Reader → ℕ → Record
-afterCode r q c = record { reader = q; sheet = step (r .sheet) c .sheet; number = cond (feeds c) ((r .number + 1) % 2 ^ 64) (r .number); goes = true }
+afterCode r q c = record { reader = q; page = step (r .page) c .page; number = cond (feeds c) ((r .number + 1) % 2 ^ 64) (r .number); goes = true }
 
 -- after a word, if one was read; a bad one ends it
 abbrev pub afterItem : Record → Reader → Item → Record

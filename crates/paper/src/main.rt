@@ -7,7 +7,7 @@ mod show;
 use judgement::Line;
 use judgement::Tally;
 use judgement::lines;
-use judgement::sheets;
+use judgement::pages;
 use libc::STDIN_FILENO;
 use libc::STDOUT_FILENO;
 use options::Options;
@@ -25,7 +25,7 @@ fn print_front(s: &[u8], n: usize) {
     }
 }
 
-// Says which word is no code, and that the sheet ends before it.
+// Says which word is no code, and that the page ends before it.
 fn print_bad_word(r: Reader) {
     let held = r.held;
     let size = r.size;
@@ -184,13 +184,13 @@ fn read_arguments() -> Options {
 // At the end of the record: its last word, the line that was not fed out, and the totals.
 fn finish(r: Record) {
     let last = reading::after_last(r);
-    let sheet = last.sheet;
-    let line = sheet.line;
+    let page = last.page;
+    let line = page.line;
     if last.goes {
         if show::is_marked(line) {
             print_line(line, last.number);
         }
-        print_totals(sheets::totals(sheet));
+        print_totals(pages::totals(page));
     }
 }
 
@@ -230,7 +230,7 @@ fn main() {
         let spot = o.spot;
         take_all(Record {
             reader: words::fresh(),
-            sheet: sheets::start(case, spot, o.stop, o.onspace, o.onreturn),
+            page: pages::start(case, spot, o.stop, o.onspace, o.onreturn),
             number: 1,
             goes: true,
         });

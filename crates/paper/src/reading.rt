@@ -1,15 +1,15 @@
 // A record as far as it was read. What is read is shown on the way.
 ghost use mathlib.Core.Path.{_≡_};
 ghost use Rattle.paper.specs.Reading.{stopped, readTo, afterCode, afterItem, afterByte, afterBytes, afterLast};
-use judgement::Sheet;
-use judgement::sheets;
+use judgement::Page;
+use judgement::pages;
 use words::Item;
 use words::Reader;
 
-// The record as far as it was read: the words, the sheet, the number of its line, and whether to go on.
+// The record as far as it was read: the words, the page, the number of its line, and whether to go on.
 pub struct Record {
     pub reader: Reader,
-    pub sheet: Sheet,
+    pub page: Page,
     pub number: u64,
     pub goes: bool,
 }
@@ -27,10 +27,10 @@ pub fn stopped(r: Record) -> Record
 fn read_to(r: Record, reader: Reader, goes: bool) -> Record
     ensures { λ q. ⌜ q ≡ readTo r reader goes ⌝ }
 {
-    let sheet = r.sheet;
+    let page = r.page;
     Record {
         reader,
-        sheet,
+        page,
         number: r.number,
         goes,
     }
@@ -40,22 +40,22 @@ fn read_to(r: Record, reader: Reader, goes: bool) -> Record
 fn after_code(r: Record, reader: Reader, c: u8) -> Record
     ensures { λ q. ⌜ q ≡ afterCode r reader c ⌝ }
 {
-    let sheet = r.sheet;
-    let heard = sheets::step(sheet, c);
-    let next = heard.sheet;
-    if sheets::feeds(c) {
-        let line = sheet.line;
+    let page = r.page;
+    let heard = pages::step(page, c);
+    let next = heard.page;
+    if pages::feeds(c) {
+        let line = page.line;
         crate::print_line(line, r.number);
         return Record {
             reader,
-            sheet: next,
+            page: next,
             number: std::num::wrapping_add_u64(r.number, 1),
             goes: true,
         };
     }
     Record {
         reader,
-        sheet: next,
+        page: next,
         number: r.number,
         goes: true,
     }

@@ -69,6 +69,6 @@ abbrev pub prints : Printer → ℕ → List Mark
 prints p c = printsAs (kindOf c) (markAs (kindOf c) (p .case) (p .count) c)
 
 -- all that many codes print
-abbrev pub sheet : Printer → List ℕ → List Mark
-sheet p [] = []
-sheet p (c ∷ cs) = prints p c ++ sheet (hear p c) cs
+abbrev pub printsAll : Printer → List ℕ → List Mark
+printsAll p [] = []
+printsAll p (c ∷ cs) = prints p c ++ printsAll (hear p c) cs

@@ -19,7 +19,7 @@ pub enum Place {
     At(u64),
 }
 
-// A character on the sheet.
+// A character on the paper.
 pub struct Mark {
     pub character: u8,
     pub lands: Place,

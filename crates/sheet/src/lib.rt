@@ -1,4 +1,4 @@
-// The text of a log sheet: codes in decimal.
+// The text of a log sheet, which is all that "sheet" stands for: codes in decimal, each after a space.
 ghost use mathlib.Core.Path.{_≡_};
 ghost use Prim.Native.Nat.{_≤_};
 ghost use lib.ListN.{length};

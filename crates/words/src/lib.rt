@@ -21,7 +21,7 @@ pub enum Setting {
     Bad,
 }
 
-// How far the record was read.
+// How far the record was read: not at all, codes alone, the codes of a log sheet, or past its `host`.
 pub enum Phase {
     Start,
     Bare,

@@ -2,7 +2,7 @@
 -- Assumes nothing.
 use mathlib.Core.Path.{_≡_, sym, _∙_}
 use mathlib.Core.Bool.{true, false}
-use Rattle.judgement.specs.Sheet.{feeds}
+use Rattle.judgement.specs.Page.{feeds}
 use borrow.Author.Needs.{needs}
 use Rattle.paper.proofs.reading.after_code.Statement.{statement}
 use Rattle.paper.proofs.reading.after_code.Tie as tie

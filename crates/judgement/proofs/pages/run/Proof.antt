@@ -1,4 +1,4 @@
--- `judgement::sheets::run` meets its contract. The invariant: what remains of the codes gives, from here, what all of them give.
+-- `judgement::pages::run` meets its contract. The invariant: what remains of the codes gives, from here, what all of them give.
 -- Assumes nothing.
 use Prim.Native.Nat.{ℕ, _≤_, _<_, _+_, _-_}
 use mathlib.Core.Path.{_≡_, refl, sym, _∙_}
@@ -10,21 +10,21 @@ use lib.Seq.{drop-cons}
 use denote.Ref.{now}
 use borrow.Author.Needs.{needs}
 use borrow.Author.Tests.{lt-ltb, le-ltb}
-use Rattle.judgement.specs.Names.{Sheet, Taken, NoCode, Run}
-use Rattle.judgement.specs.Sheet.{sheetAfter, runFrom}
-use Rattle.judgement.proofs.sheets.run.Statement.{statement}
-use Rattle.judgement.proofs.sheets.run.Tie as tie
+use Rattle.judgement.specs.Names.{Page, Taken, NoCode, Run}
+use Rattle.judgement.specs.Page.{pageAfter, runFrom}
+use Rattle.judgement.proofs.pages.run.Statement.{statement}
+use Rattle.judgement.proofs.pages.run.Tie as tie
 
-abbrev result : ℕ → Sheet → Run
-result n s = record { answer = NoCode; taken = n; sheet = s }
+abbrev result : ℕ → Page → Run
+result n s = record { answer = NoCode; taken = n; page = s }
 
-turn : (s : Sheet) (codes : List ℕ) (i : ℕ) → i < length codes → getD codes i 0 < 32 → (t : Sheet) → t ≡ sheetAfter s (getD codes i 0) → runFrom i s (drop i codes) ≡ runFrom (i + 1) t (drop (i + 1) codes)
+turn : (s : Page) (codes : List ℕ) (i : ℕ) → i < length codes → getD codes i 0 < 32 → (t : Page) → t ≡ pageAfter s (getD codes i 0) → runFrom i s (drop i codes) ≡ runFrom (i + 1) t (drop (i + 1) codes)
 turn s codes i h l t e = rw (drop-cons codes i 0 h, lt-ltb (getD codes i 0) 32 l, add-one, e)
 
-ends : (s : Sheet) (codes : List ℕ) (i : ℕ) → i < length codes → 32 ≤ getD codes i 0 → runFrom i s (drop i codes) ≡ result i s
+ends : (s : Page) (codes : List ℕ) (i : ℕ) → i < length codes → 32 ≤ getD codes i 0 → runFrom i s (drop i codes) ≡ result i s
 ends s codes i h l = rw (drop-cons codes i 0 h, le-ltb (getD codes i 0) 32 l)
 
-all : (s : Sheet) (codes : List ℕ) (i : ℕ) → length codes ≤ i → runFrom i s (drop i codes) ≡ record { answer = Taken; taken = i; sheet = s }
+all : (s : Page) (codes : List ℕ) (i : ℕ) → length codes ≤ i → runFrom i s (drop i codes) ≡ record { answer = Taken; taken = i; page = s }
 all s codes i h = rw (drop-of-length-le codes h)
 
 abbrev Inv-loop : tie.InvT-loop
@@ -46,8 +46,8 @@ returns c =
     let h : l .i < length codes = omega arith in
     sym (l .inv .1 ∙ ends (l .s) codes (l .i) h (c .if1 .taken))
 
-sheet-after-requires : tie.Need-sheet-after-requires Inv-loop μ-loop
-sheet-after-requires c κs = search needs
+page-after-requires : tie.Need-page-after-requires Inv-loop μ-loop
+page-after-requires c κs = search needs
 
 add-i : tie.Need-add-i Inv-loop μ-loop
 add-i c = search needs
@@ -60,7 +60,7 @@ loop-again c =
     let l = c .before .before .before .before .loop in
     let codes = now (c .before .before .before .before .before .before .args .codes) in
     let h : l .i < length codes = omega arith in
-    (omega arith, l .inv .1 ∙ turn (l .s) codes (l .i) h (c .before .if1 .left) _ (c .sheet-after .ensures))
+    (omega arith, l .inv .1 ∙ turn (l .s) codes (l .i) h (c .before .if1 .left) _ (c .page-after .ensures))
 
 returns-2 : tie.Need-returns-2 Inv-loop μ-loop
 returns-2 c =
@@ -77,7 +77,7 @@ run-spec =
     loop-holds
     shared-slice-read-c
     returns
-    sheet-after-requires
+    page-after-requires
     add-i
     loop-less
     loop-again

@@ -1,8 +1,8 @@
--- `judgement::sheets::totals` meets its contract: it is the sum of two tallies.
+-- `judgement::pages::totals` meets its contract: it is the sum of two tallies.
 -- Assumes nothing.
 use borrow.Author.Needs.{needs}
-use Rattle.judgement.proofs.sheets.totals.Statement.{statement}
-use Rattle.judgement.proofs.sheets.totals.Tie as tie
+use Rattle.judgement.proofs.pages.totals.Statement.{statement}
+use Rattle.judgement.proofs.pages.totals.Tie as tie
 
 tally-of-requires : tie.Need-tally-of-requires
 tally-of-requires c κs = search needs

@@ -1,8 +1,8 @@
--- `judgement::sheets::feeds` meets its contract: the character that it reads is the one that `feeds` asks.
+-- `judgement::pages::feeds` meets its contract: the character that it reads is the one that `feeds` asks.
 -- Assumes nothing.
 use borrow.Author.Needs.{needs}
-use Rattle.judgement.proofs.sheets.feeds.Statement.{statement}
-use Rattle.judgement.proofs.sheets.feeds.Tie as tie
+use Rattle.judgement.proofs.pages.feeds.Statement.{statement}
+use Rattle.judgement.proofs.pages.feeds.Tie as tie
 
 row-at-requires : tie.Need-row-at-requires
 row-at-requires c κs = search needs

@@ -1,8 +1,8 @@
--- `judgement::sheets::judgement` meets its contract: each field is what its function says.
+-- `judgement::pages::judgement` meets its contract: each field is what its function says.
 -- Assumes nothing.
 use borrow.Author.Needs.{needs}
-use Rattle.judgement.proofs.sheets.judgement.Statement.{statement}
-use Rattle.judgement.proofs.sheets.judgement.Tie as tie
+use Rattle.judgement.proofs.pages.judgement.Statement.{statement}
+use Rattle.judgement.proofs.pages.judgement.Tie as tie
 
 kind-of-requires : tie.Need-kind-of-requires
 kind-of-requires c κs = search needs

@@ -1,8 +1,8 @@
--- `judgement::sheets::start` meets its contract: the place is within the stop, and the rest is as given.
+-- `judgement::pages::start` meets its contract: the place is within the stop, and the rest is as given.
 -- Assumes nothing.
 use borrow.Author.Needs.{needs}
-use Rattle.judgement.proofs.sheets.start.Statement.{statement}
-use Rattle.judgement.proofs.sheets.start.Tie as tie
+use Rattle.judgement.proofs.pages.start.Statement.{statement}
+use Rattle.judgement.proofs.pages.start.Tie as tie
 
 within-requires : tie.Need-within-requires
 within-requires c κs = search needs

@@ -1,14 +1,14 @@
-// The sheet: a record's codes, taken one at a time and many at a time, and the judgement of each.
+// The page: a record's codes, taken one at a time and many at a time, and the judgement of each.
 ghost use mathlib.Core.Path.{_≡_};
 ghost use Rattle.judgement.specs.Verdict.{answerOf};
-ghost use Rattle.judgement.specs.Sheet.{start, feeds, sheetAfter, step, run, totals, judgement};
+ghost use Rattle.judgement.specs.Page.{start, feeds, pageAfter, step, run, totals, judgement};
 use crate::Answer;
 use crate::Heard;
 use crate::Judgement;
 use crate::Known;
 use crate::Line;
+use crate::Page;
 use crate::Run;
-use crate::Sheet;
 use crate::Spot;
 use crate::Tally;
 use crate::Watch;
@@ -27,8 +27,8 @@ pub fn number_of(a: Answer) -> u8
     }
 }
 
-// A bare sheet in a printer with this stop, and what is known of the printer.
-pub fn start(case: Known, spot: Spot, stop: u8, onspace: bool, onreturn: bool) -> Sheet
+// A bare page in a printer with this stop, and what is known of the printer.
+pub fn start(case: Known, spot: Spot, stop: u8, onspace: bool, onreturn: bool) -> Page
     ensures { λ r. ⌜ r ≡ start case spot stop onspace onreturn ⌝ }
 {
     let watch = Watch {
@@ -39,7 +39,7 @@ pub fn start(case: Known, spot: Spot, stop: u8, onspace: bool, onreturn: bool) -
         onspace,
         onreturn,
     };
-    Sheet {
+    Page {
         watch,
         line: lines::bare(),
         total: lines::none(),
@@ -53,21 +53,21 @@ pub fn feeds(c: u8) -> bool
     code::row_at(Case::Letters, c) == 10
 }
 
-// The sheet after a code.
-fn sheet_after(s: Sheet, c: u8) -> Sheet
-    ensures { λ r. ⌜ r ≡ sheetAfter s c ⌝ }
+// The page after a code.
+fn page_after(s: Page, c: u8) -> Page
+    ensures { λ r. ⌜ r ≡ pageAfter s c ⌝ }
 {
     let watch = s.watch;
     let line = s.line;
     let total = s.total;
     if feeds(c) {
-        Sheet {
+        Page {
             watch: watches::watch(watch, c),
             line: lines::bare(),
             total: lines::plus_tally(total, lines::tally_of(line)),
         }
     } else {
-        Sheet {
+        Page {
             watch: watches::watch(watch, c),
             line: lines::strike(line, strikes::strike_of(watch, c)),
             total,
@@ -75,25 +75,25 @@ fn sheet_after(s: Sheet, c: u8) -> Sheet
     }
 }
 
-// The sheet after a byte, which is a code up to 31.
-pub fn step(s: Sheet, c: u8) -> Heard
+// The page after a byte, which is a code up to 31.
+pub fn step(s: Page, c: u8) -> Heard
     ensures { λ r. ⌜ r ≡ step s c ⌝ }
 {
     if c < 32 {
         Heard {
             answer: Answer::Taken,
-            sheet: sheet_after(s, c),
+            page: page_after(s, c),
         }
     } else {
         Heard {
             answer: Answer::NoCode,
-            sheet: s,
+            page: s,
         }
     }
 }
 
-// The sheet after all codes up to the first byte that is none.
-pub fn run(first: Sheet, codes: &[u8]) -> Run
+// The page after all codes up to the first byte that is none.
+pub fn run(first: Page, codes: &[u8]) -> Run
     ensures { λ r. ⌜ r ≡ run first (now (codes .entry)) ⌝ }
 {
     let mut s = first;
@@ -104,21 +104,21 @@ pub fn run(first: Sheet, codes: &[u8]) -> Run
             return Run {
                 answer: Answer::NoCode,
                 taken: i,
-                sheet: s,
+                page: s,
             };
         }
-        s = sheet_after(s, c);
+        s = page_after(s, c);
         i += 1;
     }
     Run {
         answer: Answer::Taken,
         taken: i,
-        sheet: s,
+        page: s,
     }
 }
 
 // The totals, with the line that is not ended yet.
-pub fn totals(s: Sheet) -> Tally
+pub fn totals(s: Page) -> Tally
     ensures { λ r. ⌜ r ≡ totals s ⌝ }
 {
     let line = s.line;

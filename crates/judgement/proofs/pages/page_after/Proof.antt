@@ -1,8 +1,8 @@
--- `judgement::sheets::sheet_after` meets its contract: a line feed ends the line, and anything else may strike on it.
+-- `judgement::pages::page_after` meets its contract: a line feed ends the line, and anything else may strike on it.
 -- Assumes nothing.
 use borrow.Author.Needs.{needs}
-use Rattle.judgement.proofs.sheets.sheet_after.Statement.{statement}
-use Rattle.judgement.proofs.sheets.sheet_after.Tie as tie
+use Rattle.judgement.proofs.pages.page_after.Statement.{statement}
+use Rattle.judgement.proofs.pages.page_after.Tie as tie
 
 feeds-requires : tie.Need-feeds-requires
 feeds-requires c κs = search needs
@@ -34,8 +34,8 @@ returns c = simp (← c .before .before .before .before .before .feeds .ensures,
 returns-2 : tie.Need-returns-2
 returns-2 c = simp (← c .before .before .before .before .feeds .ensures, c .before .before .before .if1 .left, c .strike .ensures, c .before .strike-of .ensures, c .before .before .watch3 .ensures)
 
-pub sheet-after-spec : {M : Type 1} → statement M
-sheet-after-spec =
+pub page-after-spec : {M : Type 1} → statement M
+page-after-spec =
     tie.close
     (tie.spec
     feeds-requires
