@@ -1,4 +1,4 @@
--- What the traced lines put on the bench.
+-- What the calls of the traced lines start with.
 use Prim.Native.Nat.{ℕ}
 use mathlib.Core.Bool.{Bool, true, false}
 use mathlib.Core.List.{List}
@@ -12,23 +12,23 @@ use Rattle.vectors.specs.declared.traces.Stream.{Stream}
 use Rattle.vectors.specs.declared.traces.Stream.the-variants.{Host, Line, Tu}
 use Rattle.vectors.specs.declared.text.Form.{Form}
 use Rattle.vectors.specs.declared.text.Form.the-variants.{Escaped, Decimal}
-use Rattle.vectors.specs.declared.traces.Bench.{Bench}
+use Rattle.vectors.specs.declared.traces.Start.{Start}
 use Rattle.vectors.specs.declared.traces.Ran.{Ran}
 use Rattle.vectors.specs.declared.traces.Verdict.the-variants.{Other, Same, Differs}
 use Rattle.vectors.specs.Text.{beforeBar, afterBar, decoded}
 
 -- a box with ample room
-abbrev pub ready : State → Bench
+abbrev pub ready : State → Start
 ready state = record { state = state; first = 255; second = 255; from = 0 }
 
 -- the box after a vector that is as expected, or differs
 abbrev pub judged : Bool → State → Ran
-judged true state = record { verdict = Same; bench = ready state }
-judged false state = record { verdict = Differs; bench = ready state }
+judged true state = record { verdict = Same; next = ready state }
+judged false state = record { verdict = Differs; next = ready state }
 
 -- a line that is no vector
-abbrev pub prepared : Bench → Ran
-prepared b = record { verdict = Other; bench = b }
+abbrev pub prepared : Start → Ran
+prepared b = record { verdict = Other; next = b }
 
 -- what a stream takes, and its call's second buffer: host bytes, or codes
 abbrev pub formTaken : Stream → Form
@@ -47,13 +47,9 @@ abbrev pub numbersIn : ℕ → List ℕ → List ℕ
 numbersIn n s = fronted (replicate n 0) (decoded Decimal (beforeBar (afterBar s)) n)
 
 -- the next call lends these rooms and starts from this count
-abbrev pub lending : Bench → List ℕ → Bench
+abbrev pub lending : Start → List ℕ → Start
 lending b s = record { state = b .state; first = getD (numbersIn 3 s) 0 0; second = getD (numbersIn 3 s) 1 0; from = getD (numbersIn 3 s) 2 0 }
 
--- the settings with another limit
-abbrev pub withLimit : Settings → ℕ → Settings
-withLimit x n = record { endings = x .endings; limit = n; onspace = x .onspace; onreturn = x .onreturn; filter = x .filter; reports = x .reports; string = x .string }
-
 -- the box with that number in setting 50, sound or not
-abbrev pub limited : Bench → List ℕ → Bench
-limited b s = ready (withStored (b .state) (kept (withLimit (b .state .settings) (getD (numbersIn 1 s) 0 0)) (b .state .connection)))
+abbrev pub limited : Start → List ℕ → Start
+limited b s = ready (withStored (b .state) (kept (withValue (b .state .settings) (placeIn options 50) (getD (numbersIn 1 s) 0 0)) (b .state .connection)))

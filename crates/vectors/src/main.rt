@@ -15,8 +15,8 @@ use text::before_bar;
 use text::byte_at;
 use text::decode;
 use text::front;
-use traces::Bench;
 use traces::Ran;
+use traces::Start;
 use traces::Stream;
 use traces::Verdict;
 use traces::judged;
@@ -33,12 +33,12 @@ struct Tally {
     differ: u64,
 }
 
-// What was run of each kind, and the box that the traces go on from.
+// What was run of each kind, and what the next line starts with.
 struct Tallies {
     ascii: Tally,
     ustty: Tally,
     traces: Tally,
-    bench: Bench,
+    next: Start,
 }
 
 // A tally with one vector more; one that differs is printed.
@@ -102,7 +102,7 @@ fn is_ended(c: Called, left: usize, text: &[u8]) -> bool {
 }
 
 // A call of a stream that lends the rooms asked for.
-fn call(t: Stream, b: Bench, input: &[u8], one: &mut [u8], two: &mut [u8]) -> Called
+fn call(t: Stream, b: Start, input: &[u8], one: &mut [u8], two: &mut [u8]) -> Called
     requires { ⌜ (255 ≤ length (now one)) × (255 ≤ length (now two)) ⌝ }
 {
     let state = b.state;
@@ -129,7 +129,7 @@ fn call(t: Stream, b: Bench, input: &[u8], one: &mut [u8], two: &mut [u8]) -> Ca
 }
 
 // `H`, `L` or `T` with the input, the first output and the second: a call of that stream.
-fn run_call(t: Stream, b: Bench, s: &[u8]) -> Ran {
+fn run_call(t: Stream, b: Start, s: &[u8]) -> Ran {
     let given = after_bar(s);
     let first = after_bar(given);
     let second = after_bar(first);
@@ -154,7 +154,7 @@ fn run_call(t: Stream, b: Bench, s: &[u8]) -> Ran {
 }
 
 // `F|bytes|message|`: the finder.
-fn run_find(b: Bench, s: &[u8]) -> Ran {
+fn run_find(b: Start, s: &[u8]) -> Ran {
     let given = after_bar(s);
     let mut input = [0u8; 512];
     let n = decode(Form::Escaped, before_bar(given), &mut input);
@@ -168,7 +168,7 @@ fn run_find(b: Bench, s: &[u8]) -> Ran {
 }
 
 // One traced line.
-fn run_trace(b: Bench, s: &[u8]) -> Ran {
+fn run_trace(b: Start, s: &[u8]) -> Ran {
     match byte_at(s, 0) {
         b'H' => run_call(Stream::Host, b, s),
         b'L' => run_call(Stream::Line, b, s),
@@ -195,29 +195,29 @@ fn tallied(t: Tallies, s: &[u8]) -> Tallies {
     let ascii = t.ascii;
     let ustty = t.ustty;
     let traces = t.traces;
-    let bench = t.bench;
+    let start = t.next;
     match tables::run_entry(s) {
         Entry::Ascii(same) => Tallies {
             ascii: counted(ascii, same, s),
             ustty,
             traces,
-            bench,
+            next: start,
         },
         Entry::Ustty(same) => Tallies {
             ascii,
             ustty: counted(ustty, same, s),
             traces,
-            bench,
+            next: start,
         },
         Entry::Other => {
-            let r = run_trace(bench, s);
+            let r = run_trace(start, s);
             let verdict = r.verdict;
-            let next = r.bench;
+            let next = r.next;
             Tallies {
                 ascii,
                 ustty,
                 traces: traced(traces, verdict, s),
-                bench: next,
+                next,
             }
         }
     }
@@ -230,7 +230,7 @@ fn run_all(s: &[u8]) -> Tallies {
         ascii: none,
         ustty: none,
         traces: none,
-        bench: ready(step::soundness::fresh()),
+        next: ready(step::soundness::fresh()),
     };
     let mut at = 0;
     while at < s.len() {

@@ -1,4 +1,4 @@
-// What the traced lines and commands go on from: a box, and what its next call lends and starts from.
+// What the calls of the traced lines and commands start with: a box, the room of the buffers, and the count taken so far.
 ghost use mathlib.Core.Path.{_≡_};
 ghost use Rattle.vectors.specs.Traces.{ready, judged, prepared, formTaken, formFirst, lending, withLimit, limited};
 use crate::text::Form;
@@ -17,8 +17,8 @@ pub enum Stream {
     Tu,
 }
 
-// The box, and what the next call lends and starts from.
-pub struct Bench {
+// What the next call starts with: the box, the room of the two buffers that it lends, and the count taken so far.
+pub struct Start {
     pub state: State,
     pub first: u8,
     pub second: u8,
@@ -32,17 +32,17 @@ pub enum Verdict {
     Differs,
 }
 
-// What a line is, and the box after it.
+// What a line is, and what the next one starts with.
 pub struct Ran {
     pub verdict: Verdict,
-    pub bench: Bench,
+    pub next: Start,
 }
 
 // A box with ample room.
-pub fn ready(state: State) -> Bench
+pub fn ready(state: State) -> Start
     ensures { λ r. ⌜ r ≡ ready state ⌝ }
 {
-    Bench {
+    Start {
         state,
         first: 255,
         second: 255,
@@ -57,22 +57,22 @@ pub fn judged(same: bool, state: State) -> Ran
     if same {
         return Ran {
             verdict: Verdict::Same,
-            bench: ready(state),
+            next: ready(state),
         };
     }
     Ran {
         verdict: Verdict::Differs,
-        bench: ready(state),
+        next: ready(state),
     }
 }
 
-// A line that is no vector, and the box after it.
-pub fn prepared(b: Bench) -> Ran
+// A line that is no vector, and what the next one starts with.
+pub fn prepared(b: Start) -> Ran
     ensures { λ r. ⌜ r ≡ prepared b ⌝ }
 {
     Ran {
         verdict: Verdict::Other,
-        bench: b,
+        next: b,
     }
 }
 
@@ -99,13 +99,13 @@ pub fn form_first(t: Stream) -> Form
 }
 
 // `R|rooms and count|`: what the next call lends and starts from.
-pub fn lending(b: Bench, s: &[u8]) -> Bench
+pub fn lending(b: Start, s: &[u8]) -> Start
     ensures { λ r. ⌜ r ≡ lending b (now (s .entry)) ⌝ }
 {
     let mut out = [0u8; 3];
     decode(Form::Decimal, before_bar(after_bar(s)), &mut out);
     let state = b.state;
-    Bench {
+    Start {
         state,
         first: out[0],
         second: out[1],
@@ -130,7 +130,7 @@ fn with_limit(x: Settings, limit: u8) -> Settings
 }
 
 // `Z|number|`: the box with that number in setting 50, sound or not.
-pub fn limited(b: Bench, s: &[u8]) -> Bench
+pub fn limited(b: Start, s: &[u8]) -> Start
     ensures { λ r. ⌜ r ≡ limited b (now (s .entry)) ⌝ }
 {
     let mut out = [0u8; 1];
