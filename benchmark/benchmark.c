@@ -12,12 +12,12 @@ static uint8_t *input, line[ROOM], host[ROOM];
 
 /* ---- What is fed ---- */
 
-static size_t put(size_t at, const char *text) {
+static uint64_t put(uint64_t at, const char *text) {
   for (; *text != 0 && at < SIZE; text++) input[at++] = (uint8_t)*text;
   return at;
 }
 
-static size_t put_2(size_t at, unsigned n) {
+static uint64_t put_2(uint64_t at, unsigned n) {
   char two[3] = {(char)('0' + n / 10 % 10), (char)('0' + n % 10), 0};
   return put(at, two);
 }
@@ -26,7 +26,7 @@ static size_t put_2(size_t at, unsigned n) {
 static void night(void) {
   static const char *const what[] = {"start ok", "lap", "finish", "false start - recall", "split", "judge's time"};
   unsigned second = 0;
-  for (size_t at = 0; at < SIZE;) {
+  for (uint64_t at = 0; at < SIZE;) {
     second += 7 + second % 5;
     at = put(put_2(at, second / 3600 % 24), ":");
     at = put(put_2(at, second / 60 % 60), ":");
@@ -39,7 +39,7 @@ static void night(void) {
 }
 
 static void repeat(const char *text) {
-  for (size_t at = 0; at < SIZE;) at = put(at, text);
+  for (uint64_t at = 0; at < SIZE;) at = put(at, text);
 }
 
 static void shifts(void) { repeat("A1B2C3D4E5F6G7H8I9J0"); }
@@ -51,21 +51,21 @@ static void commands(void) {
 static void messages(void) { repeat("\r\n-.TC,90,8,8,8,2,31,31,0,0,1 RYRYRYRYRYRYRYRY\r\n-.TC,49,2,1\r\n"); }
 static void codes(void) {
   letters();
-  for (size_t i = 0; i < SIZE; i++) input[i] = (uint8_t)((input[i] * 7 + i) % 32);
+  for (uint64_t i = 0; i < SIZE; i++) input[i] = (uint8_t)((input[i] * 7 + i) % 32);
 }
 
 /* ---- Feeding it ---- */
 
-typedef uint32_t call_3(uint8_t *, const uint8_t *, size_t, uint8_t *, size_t, uint8_t *, size_t, uint64_t *);
-typedef uint32_t call_2(uint8_t *, const uint8_t *, size_t, uint8_t *, size_t, uint64_t *);
-typedef uint32_t call_find(const uint8_t *, size_t, uint64_t *);
+typedef uint32_t call_3(uint8_t *, const uint8_t *, uint64_t, uint8_t *, uint64_t, uint8_t *, uint64_t, uint64_t *);
+typedef uint32_t call_2(uint8_t *, const uint8_t *, uint64_t, uint8_t *, uint64_t, uint64_t *);
+typedef uint32_t call_find(const uint8_t *, uint64_t, uint64_t *);
 enum { HOST, LINE, TU, FIND };
 
 struct work {
   const char *name, *setup;
   void (*make)(void);
   int kind;
-  size_t a_call; /* input bytes in a call */
+  uint64_t a_call; /* input bytes in a call */
 };
 
 /* A sum over all that came out, so that both sides are seen to give the same. */
@@ -77,8 +77,8 @@ static uint64_t feed(const struct work *w, int by_model) {
   uint64_t done[3] = {0, 0, 0}, sum = 0;
   model_fresh(state);
   model_host(state, (const uint8_t *)w->setup, strlen(w->setup), line, ROOM, host, ROOM, done);
-  for (size_t at = 0; at < SIZE; at += w->a_call) {
-    size_t n = SIZE - at < w->a_call ? SIZE - at : w->a_call;
+  for (uint64_t at = 0; at < SIZE; at += w->a_call) {
+    uint64_t n = SIZE - at < w->a_call ? SIZE - at : w->a_call;
     uint32_t answer;
     done[2] = 0;
     if (w->kind == TU) answer = two(state, input + at, n, line, ROOM, done);
@@ -114,7 +114,7 @@ int main(int argc, char **argv) {
   int unlike = 0;
   input = malloc(SIZE);
   printf("%-32s %10s %10s %8s\n", "", "archive", "model", "ratio");
-  for (size_t i = 0; i < sizeof works / sizeof *works; i++) {
+  for (uint64_t i = 0; i < sizeof works / sizeof *works; i++) {
     double best[2] = {1e9, 1e9};
     uint64_t sum[2] = {0, 0};
     works[i].make();

@@ -21,6 +21,9 @@
  * What may not overlap: the state, done (or at) and the lent buffers are written, and each of them shares no byte with any other
  * argument. Inputs are only read.
  *
+ * Lengths and counts are uint64_t and not size_t: the calls take and write 64 bits on every processor, also where a pointer, and with it
+ * size_t, has 32.
+ *
  * A null pointer goes with length 0. The state, done and at are never null.
  *
  * After a power cut, the board writes the connection again before any text: the printer may have moved, and only writing a connection
@@ -28,7 +31,6 @@
 #ifndef LINEBOX_H
 #define LINEBOX_H
 
-#include <stddef.h>
 #include <stdint.h>
 
 #ifdef __cplusplus
@@ -70,6 +72,18 @@ enum { LINEBOX_LINE_LEAST = 16, LINEBOX_HOST_LEAST = 36 };
  *             many; else 0
  *   27 to 37  fields read, eleven bytes                                0 to 255
  *   38 to 127                                                          0
+ *
+ * Later requests have their homes in these last bytes. They hold 0 until the request lands; any other value is answer 3.
+ *
+ *   38 to 43    ids 52, 53, 76, 77, 78, 79
+ *   44          motor: 0 off, 1 on
+ *   45          0, or one more than the codes heard since the first string 93 that counts (staying at 9); 0 while the motor is on
+ *   46          case record of the way to the TU: 0 unknown, 1 letters, 2 figures
+ *   47 to 55    spare
+ *   56 to 63    the last eight codes heard as one number, lowest byte first: the last code in the top five of its forty bits, 0 where
+ *               none was heard
+ *   64 to 103   strings 91 to 95, each its 64-bit number, lowest byte first
+ *   104 to 127  spare
  */
 enum {
     LINEBOX_AT_ENDINGS = 0,
@@ -100,20 +114,20 @@ enum {
 uint32_t linebox_fresh(uint8_t state[LINEBOX_STATE]);
 
 /* Bytes from the host: text goes to the line, commands are obeyed and answered to the host. */
-uint32_t linebox_host(uint8_t state[LINEBOX_STATE], const uint8_t *in, size_t in_len,
-                      uint8_t *line, size_t line_len, uint8_t *host, size_t host_len, uint64_t done[3]);
+uint32_t linebox_host(uint8_t state[LINEBOX_STATE], const uint8_t *in, uint64_t in_len,
+                      uint8_t *line, uint64_t line_len, uint8_t *host, uint64_t host_len, uint64_t done[3]);
 
 /* Codes from the line: to the host in mode 1, to the TU in mode 4. */
-uint32_t linebox_line(uint8_t state[LINEBOX_STATE], const uint8_t *codes, size_t codes_len,
-                      uint8_t *host, size_t host_len, uint8_t *tu, size_t tu_len, uint64_t done[3]);
+uint32_t linebox_line(uint8_t state[LINEBOX_STATE], const uint8_t *codes, uint64_t codes_len,
+                      uint8_t *host, uint64_t host_len, uint8_t *tu, uint64_t tu_len, uint64_t done[3]);
 
 /* Codes from the TU: to the line in mode 4. Request P2 will lend this call a host buffer: then its prototype changes. */
-uint32_t linebox_tu(uint8_t state[LINEBOX_STATE], const uint8_t *codes, size_t codes_len,
-                    uint8_t *line, size_t line_len, uint64_t done[2]);
+uint32_t linebox_tu(uint8_t state[LINEBOX_STATE], const uint8_t *codes, uint64_t codes_len,
+                    uint8_t *line, uint64_t line_len, uint64_t done[2]);
 
 /* Where the earliest complete message stands in bytes: 1, with at[0] its start and at[1] its length, from the hyphen to the last
  * digit; or 0 with both 0. */
-uint32_t linebox_find(const uint8_t *bytes, size_t len, uint64_t at[2]);
+uint32_t linebox_find(const uint8_t *bytes, uint64_t len, uint64_t at[2]);
 
 #ifdef __cplusplus
 }

@@ -31,8 +31,8 @@ struct call {
   int kind;
   uint8_t state[LINEBOX_STATE];
   const uint8_t *in; /* null only with no bytes */
-  size_t in_len;
-  size_t lent[2];   /* lengths of the buffers in the order lent */
+  uint64_t in_len;
+  uint64_t lent[2];   /* lengths of the buffers in the order lent */
   int null_lent[2]; /* whether one of length 0 is lent as a null pointer */
 };
 
@@ -80,7 +80,7 @@ static int kept_within(const struct call *c, const struct side *s) {
   for (int i = counts + 1; i < 5; i++)
     if (s->done[i] != 0xD0D0D0D0D0D0D0D0u + (unsigned)i) return 0;
   for (int i = 0; i < 2; i++) {
-    size_t written = c->kind == FIND || i + 2 > counts ? 0 : s->done[2 + i];
+    uint64_t written = c->kind == FIND || i + 2 > counts ? 0 : s->done[2 + i];
     if (written > c->lent[i] || memcmp(s->buffer[i], filling, GUARD) != 0) return 0;
     if (memcmp(s->buffer[i] + GUARD + written, filling + GUARD + written, c->lent[i] + GUARD - written) != 0) return 0;
   }
@@ -100,9 +100,9 @@ static int same(const struct call *c) {
 
 /* ---- Saying what differs ---- */
 
-static void show_bytes(const char *name, const uint8_t *bytes, size_t n) {
+static void show_bytes(const char *name, const uint8_t *bytes, uint64_t n) {
   printf("  %s", name);
-  for (size_t i = 0; i < n && i < 200; i++) {
+  for (uint64_t i = 0; i < n && i < 200; i++) {
     if (bytes[i] > 32 && bytes[i] < 127) printf(" %u'%c'", bytes[i], bytes[i]);
     else printf(" %u", bytes[i]);
   }
@@ -114,7 +114,7 @@ static void show_side(const char *name, const struct call *c, const struct side 
   for (int i = 0; i < LINEBOX_STATE; i++)
     if (s->state[GUARD + i] != c->state[i]) printf("    state[%d]: %u -> %u\n", i, c->state[i], s->state[GUARD + i]);
   for (int i = 0; i < 2 && c->kind != FIND; i++) {
-    size_t end = c->lent[i] + GUARD, from = GUARD;
+    uint64_t end = c->lent[i] + GUARD, from = GUARD;
     while (end > from && s->buffer[i][end - 1] == filling[end - 1]) end--;
     if (end > from) show_bytes(i == 0 ? "  first buffer" : "  second buffer", s->buffer[i] + from, end - from);
   }
@@ -129,7 +129,7 @@ static void shrink(struct call *c, uint8_t *in) {
   c->in = in;
   while (smaller) {
     smaller = 0;
-    for (size_t i = 0; i < c->in_len; i++) {
+    for (uint64_t i = 0; i < c->in_len; i++) {
       uint8_t old = in[i];
       memmove(in + i, in + i + 1, c->in_len - i - 1);
       c->in_len--;
@@ -222,8 +222,8 @@ static void broken_string(uint8_t s[8]) {
   else s[0] = (uint8_t)below(10);
 }
 
-static size_t put_number(uint8_t *out, uint8_t value) {
-  size_t n = 0;
+static uint64_t put_number(uint8_t *out, uint8_t value) {
+  uint64_t n = 0;
   unsigned v = value;
   if (percent(4)) v += 256 * between(1, 300);
   if (v == 0 && percent(20)) return 0;
@@ -262,7 +262,7 @@ static unsigned values(uint8_t id, uint8_t v[8]) {
 static const uint8_t ids[] = {0, 1, 1, 1, 4, 4, 4, 10, 11, 49, 49, 50, 50, 70, 70, 71, 71, 72, 72, 74, 74, 90, 90, 90, 250};
 
 /* A command with its end; now and then broken. */
-static size_t command(uint8_t *out) {
+static uint64_t command(uint8_t *out) {
   static const char *const types[] = {"TW", "TR", "tw", "tr", "AB", "TX", "Tw", "tR", "T1", "ab", "WT", "T", "TWW"};
   uint8_t field[16] = {0}, *p = out;
   unsigned fields, type = percent(88) ? (percent(70) ? 0 : 1) : below(sizeof types / sizeof *types);
@@ -288,14 +288,14 @@ static size_t command(uint8_t *out) {
   if (percent(2)) *p++ = text_byte();
   if (percent(95)) *p++ = percent(80) ? 13 : 10;
   if (percent(40)) *p++ = 10;
-  return (size_t)(p - out);
+  return (uint64_t)(p - out);
 }
 
 enum { LONGEST_COMMAND = 200 };
 
 /* Host bytes: runs of text with commands among them. At most `most` bytes, `most` over LONGEST_COMMAND. */
-static size_t host_bytes(uint8_t *out, size_t most) {
-  size_t n = 0;
+static uint64_t host_bytes(uint8_t *out, uint64_t most) {
+  uint64_t n = 0;
   unsigned of_commands = percent(50) ? 10 : below(90);
   while (n + LONGEST_COMMAND < most) {
     if (percent(of_commands)) n += command(out + n);
@@ -308,9 +308,9 @@ static size_t host_bytes(uint8_t *out, size_t most) {
 
 /* ---- Codes ---- */
 
-static size_t code_bytes(uint8_t *out, size_t n) {
+static uint64_t code_bytes(uint8_t *out, uint64_t n) {
   unsigned over = percent(15) ? 3 : 0;
-  for (size_t i = 0; i < n; i++) {
+  for (uint64_t i = 0; i < n; i++) {
     unsigned k = below(100);
     if (percent(over)) out[i] = (uint8_t)(percent(50) ? 32 : between(32, 255));
     else if (k < 15) out[i] = 27;
@@ -384,7 +384,7 @@ static void damage(uint8_t *s) {
 
 /* ---- Random calls ---- */
 
-static size_t lend(size_t need, int *null_lent) {
+static uint64_t lend(uint64_t need, int *null_lent) {
   *null_lent = percent(50);
   switch (below(10)) {
   case 0: return 0;
@@ -403,14 +403,14 @@ static void lend_both(struct call *c) {
   c->lent[0] = c->lent[1] = ROOM - 2 * GUARD;
   memcpy(model.state + GUARD, c->state, LINEBOX_STATE);
   make(c, &model, 1);
-  size_t need[2] = {model.done[2], c->kind == TU ? 0 : model.done[3]};
+  uint64_t need[2] = {model.done[2], c->kind == TU ? 0 : model.done[3]};
   for (int i = 0; i < 2; i++) {
     c->lent[i] = lend(need[i], &c->null_lent[i]);
     if (percent(50)) c->lent[i] = need[i] + 40; /* one of the two at a time is often the narrow one */
   }
 }
 
-static size_t fill_input(struct call *c, uint8_t *in, size_t most) {
+static uint64_t fill_input(struct call *c, uint8_t *in, uint64_t most) {
   if (c->kind == HOST) return host_bytes(in, most);
   return code_bytes(in, below((unsigned)most / 4));
 }
@@ -441,7 +441,7 @@ static void session(void) {
       compare(&c);
       memcpy(c.state, model.state + GUARD, LINEBOX_STATE);
       if (model.answer == 0 || model.answer == 3) break;
-      size_t skip = model.done[1] + (model.answer == 2);
+      uint64_t skip = model.done[1] + (model.answer == 2);
       c.in += skip;
       c.in_len -= skip;
     }
@@ -469,7 +469,7 @@ static void every_damage(void) {
 
 /* ---- Every cutting, every room ---- */
 
-static void append(uint8_t *to, size_t *n, const uint8_t *from, size_t count) {
+static void append(uint8_t *to, uint64_t *n, const uint8_t *from, uint64_t count) {
   memcpy(to + *n, from, count);
   *n += count;
 }
@@ -483,14 +483,14 @@ static void every_cutting(void) {
   memcpy(before, c.state, LINEBOX_STATE);
   c.kind = call_kind(c.state);
   c.in_len = fill_input(&c, in, 240);
-  for (size_t i = 0; i < c.in_len && c.kind != HOST; i++) in[i] &= 31;
+  for (uint64_t i = 0; i < c.in_len && c.kind != HOST; i++) in[i] &= 31;
   c.in = in;
   compare(&c);
-  size_t n = c.in_len, made[2] = {archive.done[2], c.kind == TU ? 0 : archive.done[3]};
+  uint64_t n = c.in_len, made[2] = {archive.done[2], c.kind == TU ? 0 : archive.done[3]};
   memcpy(after, archive.state + GUARD, LINEBOX_STATE);
   for (int i = 0; i < 2; i++) memcpy(whole[i], archive.buffer[i] + GUARD, made[i]);
-  for (size_t cut = 0; cut <= n; cut++) {
-    size_t got[2] = {0, 0};
+  for (uint64_t cut = 0; cut <= n; cut++) {
+    uint64_t got[2] = {0, 0};
     memcpy(c.state, before, LINEBOX_STATE);
     for (int part = 0; part < 2; part++) {
       c.in = in + (part == 0 ? 0 : cut);
@@ -517,9 +517,9 @@ static void every_room(void) {
   c.in = in;
   c.in_len = fill_input(&c, in, 240);
   compare(&c);
-  size_t need[2] = {model.done[2], c.kind == TU ? 0 : model.done[3]};
+  uint64_t need[2] = {model.done[2], c.kind == TU ? 0 : model.done[3]};
   for (int i = 0; i < 2; i++) {
-    for (size_t room = 0; room <= need[i] + 1; room++) {
+    for (uint64_t room = 0; room <= need[i] + 1; room++) {
       c.lent[0] = c.lent[1] = 4000;
       c.lent[i] = room;
       c.null_lent[i] = room == 0;
@@ -537,10 +537,10 @@ static void many_bytes(int small) {
     c.kind = turn == 0 ? HOST : call_kind(c.state);
     c.in = in;
     c.in_len = 0;
-    size_t most = small ? 3000 : 64000;
+    uint64_t most = small ? 3000 : 64000;
     while (c.kind == HOST && c.in_len + 1000 < most) c.in_len += host_bytes(in + c.in_len, most - c.in_len);
     if (c.kind != HOST) c.in_len = code_bytes(in, most);
-    for (size_t i = 0; i < c.in_len && c.kind != HOST; i++) in[i] &= 31;
+    for (uint64_t i = 0; i < c.in_len && c.kind != HOST; i++) in[i] &= 31;
     do {
       c.lent[0] = small ? (c.kind == LINE ? 36 : 16) : ROOM - 2 * GUARD;
       c.lent[1] = small ? (c.kind == LINE ? 1 : 36) : ROOM - 2 * GUARD;
@@ -561,7 +561,7 @@ static void long_run_small(void) { many_bytes(1); }
 /* ---- The finder ---- */
 
 /* A message with CR LF around it, now and then with something wrong. */
-static size_t near_message(uint8_t *out) {
+static uint64_t near_message(uint8_t *out) {
   uint8_t *p = out;
   unsigned rest = percent(90) ? below(10) : percent(50) ? 255 : below(256), said = percent(92) ? rest : below(256);
   memcpy(p, "\r\n-.TC", 6);
@@ -576,7 +576,7 @@ static size_t near_message(uint8_t *out) {
   }
   *p++ = 13;
   *p++ = 10;
-  size_t n = (size_t)(p - out);
+  uint64_t n = (uint64_t)(p - out);
   if (percent(25)) out[below((unsigned)n)] = (uint8_t)("\r\n-.TC,0129 /"[below(13)]);
   if (percent(10)) n -= between(1, 3);
   return n;
@@ -588,7 +588,8 @@ static void finder(void) {
   unsigned way = below(3);
   if (way == 0) {
     c.in_len = below(80);
-    for (size_t i = 0; i < c.in_len; i++) in[i] = (uint8_t)(percent(98) ? "\r\n\r\n-.TC,0,1,2,255"[below(18)] : below(256));
+    for (uint64_t i = 0; i < c.in_len; i++)
+      in[i] = (uint8_t)(percent(98) ? "\r\n\r\n-.TC,0,1,2,255"[below(18)] : below(256));
   } else {
     for (unsigned k = between(1, 5); k > 0; k--) {
       c.in_len += near_message(in + c.in_len);
@@ -603,7 +604,7 @@ static void finder(void) {
 
 /* ---- */
 
-static void *room(size_t size) {
+static void *room(uint64_t size) {
   void *p = malloc(size);
   if (p == NULL) printf("no memory\n");
   return p;

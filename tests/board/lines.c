@@ -20,7 +20,7 @@ static uint8_t state[LINEBOX_STATE], first[ROOM], second[ROOM]; /* the buffers i
 static uint64_t done[3];
 
 static void host(const char *bytes) {
-  size_t n = strlen(bytes);
+  uint64_t n = strlen(bytes);
   uint32_t answer = linebox_host(state, (const uint8_t *)bytes, n, first, ROOM, second, ROOM, done);
   if (answer != 0 || done[0] != n) check(0, bytes, "all taken", "not all taken");
 }
@@ -31,10 +31,10 @@ static void start(const char *setup) {
 }
 
 /* Codes in decimal, with a space between them. */
-static const char *decimals(const uint8_t *codes, size_t n) {
+static const char *decimals(const uint8_t *codes, uint64_t n) {
   static char out[4 * ROOM];
-  size_t at = 0;
-  for (size_t i = 0; i < n; i++) {
+  uint64_t at = 0;
+  for (uint64_t i = 0; i < n; i++) {
     if (i > 0) out[at++] = ' ';
     if (codes[i] >= 100) out[at++] = (char)('0' + codes[i] / 100);
     if (codes[i] >= 10) out[at++] = (char)('0' + codes[i] / 10 % 10);
@@ -44,8 +44,8 @@ static const char *decimals(const uint8_t *codes, size_t n) {
   return out;
 }
 
-static size_t parse(const char *numbers, uint8_t *out) {
-  size_t n = 0;
+static uint64_t parse(const char *numbers, uint8_t *out) {
+  uint64_t n = 0;
   char *end;
   for (const char *p = numbers; *p != 0; p = end) {
     unsigned long value = strtoul(p, &end, 10);
@@ -55,10 +55,10 @@ static size_t parse(const char *numbers, uint8_t *out) {
   return n;
 }
 
-static const char *shown(const uint8_t *bytes, size_t n) {
+static const char *shown(const uint8_t *bytes, uint64_t n) {
   static char out[2 * ROOM];
-  size_t at = 0;
-  for (size_t i = 0; i < n; i++) {
+  uint64_t at = 0;
+  for (uint64_t i = 0; i < n; i++) {
     if (bytes[i] == 13 || bytes[i] == 10) out[at++] = '\\';
     out[at++] = bytes[i] == 13 ? 'r' : bytes[i] == 10 ? 'n' : (char)bytes[i];
   }
@@ -351,7 +351,7 @@ static void run_host_line(const struct trace *t) {
 
 static void run_tu_line(const struct trace *t) {
   uint8_t codes[ROOM];
-  size_t n = parse(t->input, codes);
+  uint64_t n = parse(t->input, codes);
   start(t->setup);
   uint32_t answer = linebox_tu(state, codes, n, first, ROOM, done);
   const char *got = decimals(first, done[1]);
@@ -360,7 +360,7 @@ static void run_tu_line(const struct trace *t) {
 
 static void run_line_line(const struct trace *t) {
   uint8_t codes[ROOM];
-  size_t n = parse(t->input, codes);
+  uint64_t n = parse(t->input, codes);
   start(t->setup);
   uint32_t answer = linebox_line(state, codes, n, first, ROOM, second, ROOM, done);
   int same = done[1] == strlen(t->expected) && memcmp(first, t->expected, done[1]) == 0;
@@ -369,7 +369,7 @@ static void run_line_line(const struct trace *t) {
 
 static void run_command(const struct trace *t) {
   char expected[ROOM];
-  size_t n = strlen(t->expected);
+  uint64_t n = strlen(t->expected);
   memcpy(expected, "\r\n", 2);
   memcpy(expected + 2, t->expected, n);
   memcpy(expected + 2 + n, "\r\n", 2);
@@ -383,7 +383,7 @@ static void run_command(const struct trace *t) {
 
 static void run_find(const struct trace *t) {
   const uint8_t *bytes = (const uint8_t *)t->input;
-  size_t n = strlen(t->expected);
+  uint64_t n = strlen(t->expected);
   uint64_t at[2] = {99, 99};
   uint32_t answer = linebox_find(bytes, strlen(t->input), at);
   int good = n == 0 ? answer == 0 && at[0] == 0 && at[1] == 0
@@ -471,7 +471,7 @@ static void run_fresh(void) {
 }
 
 #define EACH(table, run)                                                                                               \
-  for (size_t i = 0; i < sizeof table / sizeof *table; i++) run(&table[i])
+  for (uint64_t i = 0; i < sizeof table / sizeof *table; i++) run(&table[i])
 
 int main(void) {
   EACH(host_lines, run_host_line);

@@ -1,6 +1,7 @@
 /* A plain C model of the line box, written from the requirements and the firmware paper and not from the proved code.
    The tests compare the archive with it byte by byte, and the benchmark sets the archive's time against its time. */
 #include "model.h"
+#include <stddef.h>
 #include <string.h>
 
 #ifdef MODEL_SEEN
@@ -460,7 +461,7 @@ static int is_connection(const struct box *box) {
 /* Whether 128 bytes spell a sound state, and which. */
 static int load(struct box *box, const uint8_t state[MODEL_STATE]) {
   memcpy(box, state, sizeof *box);
-  for (size_t i = sizeof *box; i < MODEL_STATE; i++)
+  for (uint64_t i = sizeof *box; i < MODEL_STATE; i++)
     if (state[i] != 0) return 0;
   return box->endings <= 1 && box->limit >= 10 && box->limit <= 80 && box->on_space <= 1 && box->on_return <= 1 &&
          box->filter <= 1 && box->report <= 1 && is_string(box->string) && is_connection(box) && box->printer <= 2 &&
@@ -479,14 +480,14 @@ uint32_t model_fresh(uint8_t state[MODEL_STATE]) {
 }
 
 /* Into the part of a buffer still free; a null buffer is never touched. */
-static void copy(uint8_t *buffer, size_t at, const uint8_t *from, size_t n) {
-  for (size_t i = 0; i < n; i++) buffer[at + i] = from[i];
+static void copy(uint8_t *buffer, uint64_t at, const uint8_t *from, uint64_t n) {
+  for (uint64_t i = 0; i < n; i++) buffer[at + i] = from[i];
 }
 
-uint32_t model_host(uint8_t state[MODEL_STATE], const uint8_t *in, size_t in_len, uint8_t *line, size_t line_len,
-                    uint8_t *host, size_t host_len, uint64_t done[3]) {
+uint32_t model_host(uint8_t state[MODEL_STATE], const uint8_t *in, uint64_t in_len, uint8_t *line, uint64_t line_len,
+                    uint8_t *host, uint64_t host_len, uint64_t done[3]) {
   struct box box;
-  size_t taken = 0, lines = 0, hosts = 0;
+  uint64_t taken = 0, lines = 0, hosts = 0;
   uint32_t answer = ALL_TAKEN;
   done[0] = done[1] = done[2] = 0;
   if (!load(&box, state)) return NOT_SOUND;
@@ -494,22 +495,22 @@ uint32_t model_host(uint8_t state[MODEL_STATE], const uint8_t *in, size_t in_len
     if (line_len - lines >= MOST && host_len - hosts >= MOST) {
       uint8_t *l = line + lines, *h = host + hosts;
       host_byte(&box, in[taken], &l, &h);
-      lines = (size_t)(l - line);
-      hosts = (size_t)(h - host);
+      lines = (uint64_t)(l - line);
+      hosts = (uint64_t)(h - host);
     } else { /* little room: try the byte apart, and go back if its output does not fit */
       struct box before = box;
       uint8_t codes[MOST], bytes[MOST], *l = codes, *h = bytes;
       host_byte(&box, in[taken], &l, &h);
-      if ((size_t)(l - codes) > line_len - lines || (size_t)(h - bytes) > host_len - hosts) {
+      if ((uint64_t)(l - codes) > line_len - lines || (uint64_t)(h - bytes) > host_len - hosts) {
         SEEN(NO_ROOM);
         box = before;
         answer = NO_ROOM;
         break;
       }
-      copy(line, lines, codes, (size_t)(l - codes));
-      copy(host, hosts, bytes, (size_t)(h - bytes));
-      lines += (size_t)(l - codes);
-      hosts += (size_t)(h - bytes);
+      copy(line, lines, codes, (uint64_t)(l - codes));
+      copy(host, hosts, bytes, (uint64_t)(h - bytes));
+      lines += (uint64_t)(l - codes);
+      hosts += (uint64_t)(h - bytes);
     }
   }
   if (taken > 0 && box.stage != FIELD) clear_fields(&box);
@@ -520,10 +521,10 @@ uint32_t model_host(uint8_t state[MODEL_STATE], const uint8_t *in, size_t in_len
   return answer;
 }
 
-uint32_t model_line(uint8_t state[MODEL_STATE], const uint8_t *codes, size_t codes_len, uint8_t *host, size_t host_len,
-                    uint8_t *tu, size_t tu_len, uint64_t done[3]) {
+uint32_t model_line(uint8_t state[MODEL_STATE], const uint8_t *codes, uint64_t codes_len, uint8_t *host,
+                    uint64_t host_len, uint8_t *tu, uint64_t tu_len, uint64_t done[3]) {
   struct box box;
-  size_t taken = 0, hosts = 0, tus = 0;
+  uint64_t taken = 0, hosts = 0, tus = 0;
   uint32_t answer = ALL_TAKEN;
   done[0] = done[1] = done[2] = 0;
   if (!load(&box, state)) return NOT_SOUND;
@@ -560,10 +561,10 @@ uint32_t model_line(uint8_t state[MODEL_STATE], const uint8_t *codes, size_t cod
   return answer;
 }
 
-uint32_t model_tu(uint8_t state[MODEL_STATE], const uint8_t *codes, size_t codes_len, uint8_t *line, size_t line_len,
-                  uint64_t done[2]) {
+uint32_t model_tu(uint8_t state[MODEL_STATE], const uint8_t *codes, uint64_t codes_len, uint8_t *line,
+                  uint64_t line_len, uint64_t done[2]) {
   struct box box;
-  size_t taken = 0, lines = 0;
+  uint64_t taken = 0, lines = 0;
   uint32_t answer = ALL_TAKEN;
   done[0] = done[1] = 0;
   if (!load(&box, state)) return NOT_SOUND;
@@ -578,12 +579,12 @@ uint32_t model_tu(uint8_t state[MODEL_STATE], const uint8_t *codes, size_t codes
       continue;
     }
     if (line_len - lines >= MOST) {
-      lines = (size_t)(tu_code(&box, line + lines, codes[taken]) - line);
+      lines = (uint64_t)(tu_code(&box, line + lines, codes[taken]) - line);
       continue;
     }
     struct box before = box;
     uint8_t out[MOST];
-    size_t n = (size_t)(tu_code(&box, out, codes[taken]) - out);
+    uint64_t n = (uint64_t)(tu_code(&box, out, codes[taken]) - out);
     if (n > line_len - lines) {
       SEEN(NO_ROOM);
       box = before;
@@ -602,11 +603,11 @@ uint32_t model_tu(uint8_t state[MODEL_STATE], const uint8_t *codes, size_t codes
 /* ---- Finding a message ---- */
 
 /* The length of the message whose `-` is at the start of these bytes, CR LF before it; 0 if there is none. */
-static size_t message_length(const uint8_t *bytes, size_t len) {
-  size_t at = 4, numbers = 0, rest = 0;
+static uint64_t message_length(const uint8_t *bytes, uint64_t len) {
+  uint64_t at = 4, numbers = 0, rest = 0;
   if (len < 4 || memcmp(bytes, "-.TC", 4) != 0) return 0;
   while (at < len && bytes[at] == ',') {
-    size_t first = ++at;
+    uint64_t first = ++at;
     unsigned value = 0;
     while (at < len && bytes[at] >= '0' && bytes[at] <= '9' && at - first < 3) value = value * 10 + (bytes[at++] - '0');
     if (at == first || value > 255 || (bytes[first] == '0' && at - first > 1)) return 0;
@@ -616,11 +617,11 @@ static size_t message_length(const uint8_t *bytes, size_t len) {
   return at + 1 < len && bytes[at] == 13 && bytes[at + 1] == 10 ? at : 0;
 }
 
-uint32_t model_find(const uint8_t *bytes, size_t len, uint64_t at[2]) {
+uint32_t model_find(const uint8_t *bytes, uint64_t len, uint64_t at[2]) {
   at[0] = at[1] = 0;
-  for (size_t i = 2; i < len; i++) {
+  for (uint64_t i = 2; i < len; i++) {
     if (bytes[i] != '-' || bytes[i - 1] != 10 || bytes[i - 2] != 13) continue;
-    size_t n = message_length(bytes + i, len - i);
+    uint64_t n = message_length(bytes + i, len - i);
     if (n == 0) continue;
     at[0] = i;
     at[1] = n;

@@ -1,19 +1,18 @@
 /* The line box again, in plain C: the calls of include/linebox.h under other names. */
 #ifndef MODEL_H
 #define MODEL_H
-#include <stddef.h>
 #include <stdint.h>
 
 enum { MODEL_STATE = 128 };
 
 uint32_t model_fresh(uint8_t state[MODEL_STATE]);
-uint32_t model_host(uint8_t state[MODEL_STATE], const uint8_t *in, size_t in_len, uint8_t *line, size_t line_len,
-                    uint8_t *host, size_t host_len, uint64_t done[3]);
-uint32_t model_line(uint8_t state[MODEL_STATE], const uint8_t *codes, size_t codes_len, uint8_t *host, size_t host_len,
-                    uint8_t *tu, size_t tu_len, uint64_t done[3]);
-uint32_t model_tu(uint8_t state[MODEL_STATE], const uint8_t *codes, size_t codes_len, uint8_t *line, size_t line_len,
-                  uint64_t done[2]);
-uint32_t model_find(const uint8_t *bytes, size_t len, uint64_t at[2]);
+uint32_t model_host(uint8_t state[MODEL_STATE], const uint8_t *in, uint64_t in_len, uint8_t *line, uint64_t line_len,
+                    uint8_t *host, uint64_t host_len, uint64_t done[3]);
+uint32_t model_line(uint8_t state[MODEL_STATE], const uint8_t *codes, uint64_t codes_len, uint8_t *host,
+                    uint64_t host_len, uint8_t *tu, uint64_t tu_len, uint64_t done[3]);
+uint32_t model_tu(uint8_t state[MODEL_STATE], const uint8_t *codes, uint64_t codes_len, uint8_t *line,
+                  uint64_t line_len, uint64_t done[2]);
+uint32_t model_find(const uint8_t *bytes, uint64_t len, uint64_t at[2]);
 
 /* What the model came across, counted in builds with -DMODEL_SEEN, so that a test can say what it covered. */
 #define MODEL_EVENTS(EVENT)                                                                                             \
