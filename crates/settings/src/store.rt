@@ -12,7 +12,7 @@ use command::Verb;
 // The settings with one of them changed.
 impl Settings {
     // The value at a place.
-    fn with_value(mut self, place: u8, x: u8) -> Settings
+    pub fn with_value(mut self, place: u8, x: u8) -> Settings
         ensures { λ r. ⌜ r ≡ withValue self place x ⌝ }
     {
         let i = place as usize;

@@ -5,7 +5,7 @@ use mathlib.Core.List.{List}
 use lib.ListN.{getD, replicate}
 use Rattle.laws.specs.Written.{fronted}
 use Rattle.settings.specs.declared.Settings.{Settings}
-use Rattle.settings.specs.Command.{kept}
+use Rattle.settings.specs.Command.{kept, withValue}
 use Rattle.step.specs.declared.State.{State}
 use Rattle.step.specs.State.{withStored}
 use Rattle.vectors.specs.declared.traces.Stream.{Stream}
@@ -50,6 +50,6 @@ numbersIn n s = fronted (replicate n 0) (decoded Decimal (beforeBar (afterBar s)
 abbrev pub lending : Start → List ℕ → Start
 lending b s = record { state = b .state; first = getD (numbersIn 3 s) 0 0; second = getD (numbersIn 3 s) 1 0; from = getD (numbersIn 3 s) 2 0 }
 
--- the box with that number in setting 50, sound or not
+-- the box with that number in option 50, which has place 1, sound or not
 abbrev pub limited : Start → List ℕ → Start
-limited b s = ready (withStored (b .state) (kept (withValue (b .state .settings) (placeIn options 50) (getD (numbersIn 1 s) 0 0)) (b .state .connection)))
+limited b s = ready (withStored (b .state) (kept (withValue (b .state .settings) 1 (getD (numbersIn 1 s) 0 0)) (b .state .connection)))

@@ -1,11 +1,10 @@
 // What the calls of the traced lines and commands start with: a box, the room of the buffers, and the count taken so far.
 ghost use mathlib.Core.Path.{_≡_};
-ghost use Rattle.vectors.specs.Traces.{ready, judged, prepared, formTaken, formFirst, lending, withLimit, limited};
+ghost use Rattle.vectors.specs.Traces.{ready, judged, prepared, formTaken, formFirst, lending, limited};
 use crate::text::Form;
 use crate::text::after_bar;
 use crate::text::before_bar;
 use crate::text::decode;
-use settings::Settings;
 use settings::Stored;
 use step::State;
 use step::states::with_stored;
@@ -113,23 +112,7 @@ pub fn lending(b: Start, s: &[u8]) -> Start
     }
 }
 
-// The settings with another limit.
-fn with_limit(x: Settings, limit: u8) -> Settings
-    ensures { λ r. ⌜ r ≡ withLimit x limit ⌝ }
-{
-    let string = x.string;
-    Settings {
-        endings: x.endings,
-        limit,
-        onspace: x.onspace,
-        onreturn: x.onreturn,
-        filter: x.filter,
-        reports: x.reports,
-        string,
-    }
-}
-
-// `Z|number|`: the box with that number in setting 50, sound or not.
+// `Z|number|`: the box with that number in option 50, which has place 1, sound or not.
 pub fn limited(b: Start, s: &[u8]) -> Start
     ensures { λ r. ⌜ r ≡ limited b (now (s .entry)) ⌝ }
 {
@@ -139,7 +122,7 @@ pub fn limited(b: Start, s: &[u8]) -> Start
     let was = old.settings;
     let connection = old.connection;
     let stored = Stored {
-        settings: with_limit(was, out[0]),
+        settings: was.with_value(1, out[0]),
         connection,
         connected: false,
     };

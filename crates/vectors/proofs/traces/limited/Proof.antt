@@ -18,11 +18,11 @@ slice-aggregate-decode c = search needs
 decode-requires : tie.Need-decode-requires
 decode-requires c κs = search needs
 
-array-read-with-limit : tie.Need-array-read-with-limit
-array-read-with-limit c = search needs
+array-read-with-value : tie.Need-array-read-with-value
+array-read-with-value c = search needs
 
-with-limit-requires : tie.Need-with-limit-requires
-with-limit-requires c κs = search needs
+with-value-requires : tie.Need-with-value-requires
+with-value-requires c κs = search needs
 
 with-stored-requires : tie.Need-with-stored-requires
 with-stored-requires c κs = search needs
@@ -31,7 +31,7 @@ ready-requires : tie.Need-ready-requires
 ready-requires c κs = search needs
 
 returns : tie.Need-returns
-returns c = rw (c .ready .ensures, c .before .with-stored .ensures, c .before .before .with-limit .ensures, in-field 1 (now (c .before .before .before .before .before .before .before .before .before .before .before .args .s)) _ _ _ (c .before .before .before .before .before .before .before .before .before .after-bar .ensures) (c .before .before .before .before .before .before .before .before .before-bar .ensures) (c .before .before .before .before .before .before .decode .ensures .1))
+returns c = rw (c .ready .ensures, c .before .with-stored .ensures, c .before .before .with-value .ensures, in-field 1 (now (c .before .before .before .before .before .before .before .before .before .before .before .args .s)) _ _ _ (c .before .before .before .before .before .before .before .before .before .after-bar .ensures) (c .before .before .before .before .before .before .before .before .before-bar .ensures) (c .before .before .before .before .before .before .decode .ensures .1))
 
 pub limited-spec : {M : Type 1} → statement M
 limited-spec =
@@ -41,8 +41,8 @@ limited-spec =
     before-bar-requires
     slice-aggregate-decode
     decode-requires
-    array-read-with-limit
-    with-limit-requires
+    array-read-with-value
+    with-value-requires
     with-stored-requires
     ready-requires
     returns)
