@@ -2,7 +2,7 @@
 -- Assumes nothing.
 use Prim.Native.Nat.{ℕ, suc, _+_, _≤_}
 use mathlib.Core.Path.{_≡_, refl, ap}
-use mathlib.Core.Bool.{Bool, true, false, cond, _||_, _&&_, false≢true}
+use mathlib.Core.Bool.{Bool, true, false, _||_, _&&_, false≢true}
 use mathlib.Core.List.{List, [], _∷_, _++_}
 use native.Mathlib.Omega.{arith}
 use lib.Dec.{eqb, leb}
@@ -16,6 +16,7 @@ use Rattle.settings.specs.Options.{limit, onreturn, endingCodes}
 use Rattle.sender.specs.Record.{noteColumn, noteKind, note, notes}
 use Rattle.sender.specs.Code.{unshift, sendKind}
 use Rattle.sender.specs.Ending.{onRecord, endingOf, untilZero}
+use Rattle.sender.proofs.Few.{until-length}
 use Rattle.agree.specs.Names.{Kind, Still, Space, Return, Shift, Char, Settings, Record}
 use Rattle.agree.proofs.Weights.{weight, weight-append, weight-shifts, weight-ending, places, column-reach}
 
@@ -58,14 +59,6 @@ sound-opens (c ∷ cs) h = go (eqb c 8) (eqb c 2) (eqb c 27) (eqb c 31) refl ref
     go false false false true a b d e rest h = rw (eqb-true c 31 e) (rest h)
     go false false false false a b d e rest h = absurd (false≢true h)
 
-until-short : (cs : List ℕ) → length (untilZero cs) ≤ length cs
-until-short [] = omega arith
-until-short (c ∷ cs) = go (eqb c 0) (until-short cs)
-  where
-    go : (b : Bool) → length (untilZero cs) ≤ length cs → length (cond b [] (c ∷ untilZero cs)) ≤ suc (length cs)
-    go true h = omega arith
-    go false h = omega arith
-
 -- an ending brings the carriage home
 ending-home : (m : ℕ) (o : Settings) (cs : List ℕ) → opening cs ≡ true → length cs ≤ suc m → (r : Record) → Home m (endingOf o r cs)
 ending-home m o [] h short r = absurd (false≢true h)
@@ -103,14 +96,13 @@ pub record Sound (o : Settings) : Type 0 where
   pub home : (r : Record) → Home 7 (endingOf o r (untilZero (endingCodes o)))
   pub short : length (untilZero (endingCodes o)) ≤ 8
 
-pub sound : (o : Settings) → soundSettings o ≡ true → length (endingCodes o) ≡ 8 → Sound o
-unfolding soundString limit endingCodes
-sound o h eight =
-    let parts = both (leb 10 (limit o) && leb (limit o) 80) (soundString (endingCodes o)) h in
-    let limits = both (leb 10 (limit o)) (leb (limit o) 80) (parts .0) in
-    let string = both (allCodes (endingCodes o)) (padded (endingCodes o) && opens (endingCodes o)) (parts .1) in
+pub sound : (o : Settings) → soundSettings o ≡ true → Sound o
+unfolding soundString
+sound o h =
+    let limits = both (leb 10 (limit o)) (leb (limit o) 80) (limit-in o h) in
+    let string = both (allCodes (endingCodes o)) (padded (endingCodes o) && opens (endingCodes o)) (ending-sound o h) in
     let opened = sound-opens (endingCodes o) (both (padded (endingCodes o)) (opens (endingCodes o)) (string .1) .1) in
-    let short : length (untilZero (endingCodes o)) ≤ 8 = omega (arith, until-short (endingCodes o)) in
+    let short : length (untilZero (endingCodes o)) ≤ 8 = omega (arith, until-length (endingCodes o), eight-codes o h) in
     record {
       least = leb-true 10 (limit o) (limits .0);
       most = leb-true (limit o) 80 (limits .1);

@@ -16,10 +16,10 @@ use Rattle.sender.specs.Ending.{onRecord, endingCode, endingOf, untilZero, due,
 use Rattle.sender.specs.Item.{character, lastOf, item, afterItem, items, wanted, wantedOf}
 use Rattle.sender.specs.After.{afterUnshift, afterCase}
 use Rattle.sender.proofs.Sends.{notes-append}
-use Rattle.agree.specs.Names.{Case, Letters, Figures, Kind, Still, Space, Return, Shift, Char, Conversion, Nothing, Free, Cased, Settings, Known, Is, Record, Wanted, Sender}
+use Rattle.agree.specs.Names.{Case, Letters, Figures, Kind, Still, Space, Return, Shift, Char, Conversion, Cased, Settings, Known, Is, Record, Wanted, Sender}
 use Rattle.agree.specs.Names.known
 use Rattle.sender.proofs.After.{record-after}
-use Rattle.sender.proofs.Few.{code-length}
+use Rattle.sender.proofs.Few.{code-length, wanted-few}
 use Rattle.agree.proofs.Folds.{item-cases}
 use Rattle.agree.proofs.Weights.{weight-code, places, column-reach}
 use Rattle.agree.proofs.Home.{Sound, sound}
@@ -108,27 +108,21 @@ module _ (o : Settings) (t : Sound o) where
           let x = sendAs o (s .held .case) (w .case) (w .code) in
           omega (arith, code-length o (s .held .case) (w .case) (w .code), item-most (after x) v)
 
--- a text byte is one item at most
-one-wanted : (x : Conversion) → length (wantedOf x) ≤ 1
-one-wanted Nothing = omega arith
-one-wanted (Free c) = omega arith
-one-wanted (Cased case c) = omega arith
-
-module _ (o : Settings) (h : soundSettings o ≡ true) (eight : length (endingCodes o) ≡ 8) where
+module _ (o : Settings) (h : soundSettings o ≡ true) where
   pub item-length : (s : Sender) (w : Wanted) → length (item o s w) ≤ 14
-  item-length s w = item-most o (sound o h eight) s w
+  item-length s w = item-most o (sound o h) s w
 
   pub items-length : (s : Sender) (ws : List Wanted) → length ws ≤ 2 → length (items o s ws) ≤ 16
   items-length s [] few = omega arith
   items-length s (w ∷ []) few = rw (append-nil (item o s w)) (omega (arith, item-length s w))
   items-length s (w ∷ v ∷ []) few =
       let u = afterItem o s w in
-      rw (append-nil (item o u v), length-append (item o s w) (item o u v)) (two-most o (sound o h eight) s w v)
+      rw (append-nil (item o u v), length-append (item o s w) (item o u v)) (two-most o (sound o h) s w v)
   items-length s (w ∷ v ∷ u ∷ ws) few = absurd (omega arith)
 
   -- two text bytes, as a released `/` and the byte after it
   pub texts-length : (s : Sender) (x y : Conversion) → length (items o s (wantedOf x ++ wantedOf y)) ≤ 16
-  texts-length s x y = items-length s (wantedOf x ++ wantedOf y) (rw (length-append (wantedOf x) (wantedOf y)) (omega (arith, one-wanted x, one-wanted y)))
+  texts-length s x y = items-length s (wantedOf x ++ wantedOf y) (rw (length-append (wantedOf x) (wantedOf y)) (omega (arith, wanted-few x, wanted-few y)))
 
   pub slash-length : (s : Sender) (y : Conversion) → length (items o s (wanted Figures 29 ∷ wantedOf y)) ≤ 16
   slash-length s y = texts-length s (Cased Figures 29) y

@@ -128,10 +128,10 @@ module _ (o : Settings) (t : Sound o) where
         (λ h. count-below (limit o) (notes o r e .column) (q .count) (t .most) (ending-keeps o r w sure) (b .column) (below-limit h))))
 
 -- every space and struck character of an item and of its ending
-module _ (o : Settings) (h : soundSettings o ≡ true) (eight : length (endingCodes o) ≡ 8) (on : endings o ≡ true) where
+module _ (o : Settings) (h : soundSettings o ≡ true) (on : endings o ≡ true) where
   pub item-below : (s : Sender) (p : Printer) (w : Wanted) → ColumnSure (s .held .column) → Obeys o p (item o s w) → Agrees (s .held) p → Below (limit o) (printsAll p (item o s w))
   item-below s p w sure obeys a =
-      item-cases o s w (λ cs. Obeys o p cs → Below (limit o) (printsAll p cs)) (λ h. tt) (λ q. character-below o (sound o h eight) on (s .held) w p sure q a) obeys
+      item-cases o s w (λ cs. Obeys o p cs → Below (limit o) (printsAll p cs)) (λ h. tt) (λ q. character-below o (sound o h) on (s .held) w p sure q a) obeys
 
   pub items-below : (s : Sender) (p : Printer) (ws : List Wanted) → ColumnSure (s .held .column) → Obeys o p (items o s ws) → Agrees (s .held) p → Below (limit o) (printsAll p (items o s ws))
   items-below s p [] sure obeys a = tt

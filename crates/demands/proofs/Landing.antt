@@ -68,12 +68,12 @@ unknown-within limit o r p w e =
     let d : endingBefore o r w ≡ [] = rw (e, and-false) in
     rw d (code-within limit o (r .case) p (w .case) (w .code))
 
-module _ (o : Settings) (h : soundSettings o ≡ true) (eight : length (endingCodes o) ≡ 8) (on : endings o ≡ true) where
+module _ (o : Settings) (h : soundSettings o ≡ true) (on : endings o ≡ true) where
   item-within : (s : Sender) (p : Printer) (w : Wanted) (b : Bool) → (b ≡ true → ColumnSure (s .held .column)) → Obeys o p (item o s w) → Agrees (s .held) p → Within (limit o) b p (item o s w)
   item-within s p w b sure obeys a = go (s .held .column) refl b sure
     where
       known : (b : Bool) → ColumnSure (s .held .column) → Within (limit o) b p (item o s w)
-      known b f = below-within (limit o) b p (item o s w) (item-below o h eight on s p w f obeys a)
+      known b f = below-within (limit o) b p (item o s w) (item-below o h on s p w f obeys a)
 
       go : (col : Column) → s .held .column ≡ col → (b : Bool) → (b ≡ true → ColumnSure (s .held .column)) → Within (limit o) b p (item o s w)
       go (column.At n) e b sure = known b (rw e tt)

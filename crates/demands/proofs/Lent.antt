@@ -3,9 +3,6 @@
 use Prim.Native.Nat.{ℕ}
 use mathlib.Core.Path.{_≡_, refl, sym, ap, _∙_}
 use mathlib.Core.List.{List, [], _∷_, _++_}
-use lib.ListN.{length, take, drop}
-use lib.Seq.{take-at}
-use Rattle.laws.specs.Written.{fronted}
 use Rattle.step.specs.State.{freshBox}
 use Rattle.step.specs.Step.{Event, run}
 use Rattle.linebox.specs.Ends.{events, firstsOf}
@@ -20,14 +17,10 @@ use Rattle.demands.proofs.OurBox.{front, ours-every-call}
 use Rattle.demands.proofs.ReadingBack.{lines-read-back}
 use Rattle.demands.proofs.Printing.{lines-print}
 
--- what is at a buffer's front
-fronts : (old new now : List ℕ) (n : ℕ) → n ≡ length new → now ≡ fronted old new → take n now ≡ new
-fronts old new now n l e = rw e (take-at new (drop (length new) old) n (sym l))
-
 sends-by : (t : Stream) (s : State) (xs one two : List ℕ) (r : Result) (h : Ended t s xs one two r) → sentBy t r ≡ lines s (events t (h .taken))
-sends-by Host s xs one two r h = fronts one (firstsOf Host s (h .taken)) (r .first) (r .gives .first) (h .wrote .count-first) (h .wrote .first)
+sends-by Host s xs one two r h = front (r .first) (firstsOf Host s (h .taken)) _ (r .gives .first) (h .wrote .first) (h .wrote .count-first)
 sends-by Line s xs one two r h = sym (line-none s (h .taken))
-sends-by Tu s xs one two r h = fronts one (firstsOf Tu s (h .taken)) (r .first) (r .gives .first) (h .wrote .count-first) (h .wrote .first)
+sends-by Tu s xs one two r h = front (r .first) (firstsOf Tu s (h .taken)) _ (r .gives .first) (h .wrote .first) (h .wrote .count-first)
 
 -- each call meets demand 1 from the state that the last one left
 abbrev pub Meets : State → List Exchange → Type 0

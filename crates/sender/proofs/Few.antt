@@ -44,13 +44,20 @@ ending-length o r (c ∷ cs) =
     let x = endingCode o (r .case) c in
     rw (length-append x (endingOf o (notes o r x) cs)) (omega (arith, code-length o (r .case) (onRecord (r .case)) c, ending-length o (notes o r x) cs))
 
-until-length : (cs : List ℕ) → length (untilZero cs) ≤ length cs
+-- the codes of string 90
+pub until-length : (cs : List ℕ) → length (untilZero cs) ≤ length cs
 until-length [] = omega arith
 until-length (c ∷ cs) = go (eqb c 0) (until-length cs)
   where
     go : (b : Bool) → length (untilZero cs) ≤ length cs → length (cond b [] (c ∷ untilZero cs)) ≤ length (c ∷ cs)
     go true h = omega arith
     go false h = omega arith
+
+-- a byte's items are one at most
+pub wanted-few : (x : Conversion) → length (wantedOf x) ≤ 1
+wanted-few Nothing = omega arith
+wanted-few (Free c) = omega arith
+wanted-few (Cased case c) = omega arith
 
 module _ (o : Settings) (eight : length (endingCodes o) ≡ 8) where
   ending-most : (r : Record) (b : Bool) → length (ending o r b) ≤ 16
@@ -71,7 +78,7 @@ module _ (o : Settings) (eight : length (endingCodes o) ≡ 8) where
       go true = omega arith
       go false = character-most (s .held) w
 
-  -- a byte's items
+  -- a byte's codes
   pub byte-most : (s : Sender) (x : Conversion) → length (items o s (wantedOf x)) ≤ 18
   byte-most s Nothing = omega arith
   byte-most s (Free c) = rw append-nil (item-most s (wanted Letters c))

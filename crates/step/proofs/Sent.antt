@@ -7,13 +7,12 @@ use mathlib.Core.List.{List, [], _∷_, _++_, append-nil}
 use native.Mathlib.Omega.{arith}
 use borrow.Author.Tests.{le-leb, lt-leb}
 use lib.ListN.{length, length-append}
-use Rattle.code.specs.declared.Conversion.{Conversion}
-use Rattle.code.specs.declared.Conversion.the-variants.{Nothing, Free, Cased}
 use Rattle.code.specs.Convert.{conversion}
 use Rattle.sender.specs.declared.Item.{Item}
 use Rattle.sender.specs.declared.Sent.{Sent}
 use Rattle.sender.specs.Item.{items, afterItems, wanted, wantedOf}
 use Rattle.sender.specs.Sends.{counted, Run, sends as codesSent, Sends}
+use Rattle.sender.proofs.Few.{wanted-few}
 use Rattle.sender.proofs.Sends.{items-append, after-append}
 use Rattle.step.specs.Names.{Case, Settings, Wanted, Sender, Text, Codes, State}
 use Rattle.step.specs.State.{withSender}
@@ -70,11 +69,6 @@ module _ (s : State) (ws : List Wanted) (x : Item) (e : x ≡ counted (s .settin
       record { fits = rw (le-leb (length (sends s ws .line)) (length old) u); state = after; count = q .count; places = q .places }
 
 -- at most two items
-one-wanted : (x : Conversion) → length (wantedOf x) ≤ 1
-one-wanted Nothing = omega arith
-one-wanted (Free c) = omega arith
-one-wanted (Cased case c) = omega arith
-
 pub asked-few : (slash : Bool) (b : ℕ) → length (asked (released slash b)) ≤ 2
-asked-few false b = rw append-nil (omega (arith, one-wanted (conversion b)))
-asked-few true b = rw (append-nil, length-append) (omega (arith, one-wanted (conversion 47), one-wanted (conversion b)))
+asked-few false b = rw append-nil (omega (arith, wanted-few (conversion b)))
+asked-few true b = rw (append-nil, length-append) (omega (arith, wanted-few (conversion 47), wanted-few (conversion b)))
