@@ -13,6 +13,7 @@ use Rattle.code.specs.Rows.{rowAt}
 use Rattle.code.specs.Kinds.{kindOf, shifts}
 use Rattle.settings.specs.Table.{allCodes, padded, opens, soundString, soundSettings}
 use Rattle.settings.specs.Options.{limit, onreturn, endingCodes}
+use Rattle.settings.proofs.Held.{limit-in, ending-sound, eight-codes}
 use Rattle.sender.specs.Record.{noteColumn, noteKind, note, notes}
 use Rattle.sender.specs.Code.{unshift, sendKind}
 use Rattle.sender.specs.Ending.{onRecord, endingOf, untilZero}

@@ -5,9 +5,11 @@ use mathlib.Core.Path.{_≡_, refl, _∙_}
 use mathlib.Core.Bool.{Bool, true, false, _&&_, and-false}
 use mathlib.Core.List.{List, [], _∷_, _++_, append-assoc, append-nil}
 use native.Mathlib.Omega.{arith}
-use borrow.Author.Tests.{ltb-true, ltb-false, lt-leb, eqb-true, ne-eqb}
+use borrow.Author.Tests.{ltb-true, ltb-false, lt-leb, ne-eqb}
 use lib.Dec.{T, eqb, ltb}
+use Rattle.laws.specs.Same.{same}
 use Rattle.laws.proofs.Both.{both}
+use Rattle.laws.proofs.Same.{same-tested}
 use Rattle.laws.proofs.Table.{upto, below}
 use Rattle.code.specs.declared.Conversion.the-variants.{Nothing}
 use Rattle.code.specs.Rows.{letters, figures, rowAt}
@@ -46,22 +48,6 @@ none-high b h =
 
 -- Text.
 
-abbrev same : List ℕ → List ℕ → Bool
-same [] [] = true
-same [] (y ∷ ys) = false
-same (x ∷ xs) [] = false
-same (x ∷ xs) (y ∷ ys) = eqb x y && same xs ys
-
-same-eq : (xs ys : List ℕ) → T (same xs ys) → xs ≡ ys
-same-eq [] [] t = refl
-same-eq [] (y ∷ ys) t = absurd t
-same-eq (x ∷ xs) [] t = absurd t
-same-eq (x ∷ xs) (y ∷ ys) t = go (eqb x y) refl t (same-eq xs ys)
-  where
-    go : (b : Bool) → eqb x y ≡ b → T (b && same xs ys) → (T (same xs ys) → xs ≡ ys) → x ∷ xs ≡ y ∷ ys
-    go true e t rest = rw (eqb-true x y e, rest t)
-    go false e t rest = absurd t
-
 byte-test : ℕ → Bool
 byte-test b = same (reads (wantedOf (conversion b))) (textByte b)
 
@@ -75,7 +61,7 @@ unfolding byte-test
 byte-reads b = go (ltb b 128) refl
   where
     go : (l : Bool) → ltb b 128 ≡ l → reads (wantedOf (conversion b)) ≡ textByte b
-    go true e = same-eq (reads (wantedOf (conversion b))) (textByte b) (below byte-test 128 byte-all b (ltb-true b 128 e))
+    go true e = same-tested (reads (wantedOf (conversion b))) (textByte b) (below byte-test 128 byte-all b (ltb-true b 128 e))
     go false e = rw (none-high b (ltb-false b 128 e))
 
 reads-append : (xs ys : List Wanted) → reads (xs ++ ys) ≡ reads xs ++ reads ys

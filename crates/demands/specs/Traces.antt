@@ -1,9 +1,10 @@
 -- The paper's starred traces, as one table over the box's calls.
 use Prim.Native.Nat.{ℕ}
-use mathlib.Core.Bool.{Bool, true, false, _&&_}
+use mathlib.Core.Bool.{Bool, true, _&&_}
 use mathlib.Core.List.{List, [], _∷_, _++_}
 use lib.Dec.{eqb}
 use lib.ListN.{length}
+use Rattle.laws.specs.Same.{same}
 use Rattle.step.specs.State.{freshBox}
 use Rattle.linebox.specs.Call.{Done, call}
 use Rattle.demands.specs.Names.{Stream, Host, Tu}
@@ -20,12 +21,6 @@ prepared t = call Host freshBox (t .before) 100 200
 
 abbrev pub given : Trace → Done
 given t = call (t .stream) (prepared t .state) (t .bytes) 100 0
-
-abbrev pub same : List ℕ → List ℕ → Bool
-same [] [] = true
-same [] (y ∷ ys) = false
-same (x ∷ xs) [] = false
-same (x ∷ xs) (y ∷ ys) = eqb x y && same xs ys
 
 -- all bytes are taken, and the codes are those
 abbrev pub pass : Trace → Bool

@@ -9,6 +9,8 @@ use native.Mathlib.Omega.{arith}
 use borrow.Author.Tests.{eq-eqb, le-leb, le-ltb, leb-true, ltb-true, ltb-false, eqb-true, eqb-false}
 use lib.Dec.{T, eqb, leb, ltb, eqb·zero-suc, eqb·suc-zero, eqb·suc-suc}
 use lib.ListN.{length}
+use Rattle.laws.specs.Same.{same}
+use Rattle.laws.proofs.Same.{same-tested}
 use Rattle.laws.proofs.Table.{upto, below}
 use Rattle.message.specs.declared.Phase.{Phase}
 use Rattle.message.specs.declared.Phase.the-variants.{First, Rest, Over}
@@ -65,33 +67,16 @@ whole-of (id ∷ []) e = absurd e
 whole-of (id ∷ n ∷ values) e = left n values ∙ eq-eqb n (length values) e
 
 -- ---- the digits of a number, one after another
-alike : List ℕ → List ℕ → Bool
-alike [] [] = true
-alike [] (y ∷ ys) = false
-alike (x ∷ xs) [] = false
-alike (x ∷ xs) (y ∷ ys) = cond (eqb x y) (alike xs ys) false
-
-alike-is : (xs ys : List ℕ) → T (alike xs ys) → xs ≡ ys
-unfolding alike
-alike-is [] [] t = refl
-alike-is [] (y ∷ ys) t = absurd t
-alike-is (x ∷ xs) [] t = absurd t
-alike-is (x ∷ xs) (y ∷ ys) t = go (eqb x y) refl t (alike-is xs ys)
-  where
-    go : (b : Bool) → eqb x y ≡ b → T (cond b (alike xs ys) false) → (T (alike xs ys) → xs ≡ ys) → x ∷ xs ≡ y ∷ ys
-    go true e u rest = rw (eqb-true x y e, rest u)
-    go false e u rest = absurd u
-
 last-digit : ℕ → Bool
-last-digit n = cond (ltb n 10) true (alike (digits n) (digits (n / 10) ++ digit (n % 10) ∷ []))
+last-digit n = cond (ltb n 10) true (same (digits n) (digits (n / 10) ++ digit (n % 10) ∷ []))
 
 all-digits : T (upto last-digit 256)
-unfolding last-digit alike digits
+unfolding last-digit digits
 all-digits = tt
 
 pub digits-split : (n : ℕ) → 10 ≤ n → n ≤ 255 → digits n ≡ digits (n / 10) ++ digit (n % 10) ∷ []
 unfolding last-digit
-digits-split n l h = alike-is _ _ (rw (le-ltb n 10 l) at (below last-digit 256 all-digits n (omega arith)))
+digits-split n l h = same-tested _ _ (rw (le-ltb n 10 l) at (below last-digit 256 all-digits n (omega arith)))
 
 pub digits-more : (v d : ℕ) → (v ≡ 0 → ⊥) → d < 10 → v * 10 + d ≤ 255 → digits (v * 10 + d) ≡ digits v ++ digit d ∷ []
 digits-more v d z l h =

@@ -12,7 +12,8 @@ use Rattle.spelling.specs.Names.column
 use Rattle.spelling.specs.Names.last
 use Rattle.spelling.specs.Spelling.{bit, caseByte, knownByte, lastByte, verbByte, formByte, columnBytes, stageBytes, spelt, caseOf, knownOf, lastOf, verbOf, formOf, columnOf, stageOf, stateOf, spells, loaded, part}
 use Rattle.spelling.proofs.Parts.{two, four, laid}
-use Rattle.spelling.proofs.Same.{same-self, its-spelling}
+use Rattle.laws.proofs.Same.{same-self}
+use Rattle.spelling.proofs.Same.{its-spelling}
 
 bit-back : (b : Bool) → eqb (bit b) 1 ≡ b
 bit-back true = refl

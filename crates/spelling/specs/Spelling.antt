@@ -1,9 +1,10 @@
 -- The state as 128 bytes: each field at its offset, and what bytes spell.
 use Prim.Native.Nat.{ℕ, zero, suc}
-use mathlib.Core.Bool.{Bool, true, false, cond, _&&_}
+use mathlib.Core.Bool.{Bool, true, false, cond}
 use mathlib.Core.List.{List, [], _∷_, _++_}
 use lib.Dec.{eqb}
 use lib.ListN.{getD, set, replicate}
+use Rattle.laws.specs.Same.{same}
 use Rattle.spelling.specs.Names.{Case, Letters, Figures, Verb, Write, Read, Other, Form, Empty, Digits, Ex, Stage, Text, Swallow, Held, Begun, Lettered, Typed, Fields, Discard, Reader, Settings, Connection, Known, Is, Column, At, Last, Shift, Sender, State, Loaded}
 use Rattle.spelling.specs.Names.known
 use Rattle.spelling.specs.Names.column
@@ -132,12 +133,6 @@ stateOf b = record {
 }
 
 -- What bytes spell.
-
-abbrev pub same : List ℕ → List ℕ → Bool
-same [] [] = true
-same [] (y ∷ ys) = false
-same (x ∷ xs) [] = false
-same (x ∷ xs) (y ∷ ys) = eqb x y && same xs ys
 
 -- bytes spell the state that they read as if they are its spelling, to the last byte
 unfoldable pub spells : List ℕ → Bool

@@ -1,6 +1,7 @@
 // What 128 bytes spell: each field from its offset, and the test that they are that state's spelling to the last byte.
 ghost use mathlib.Core.Path.{_≡_};
-ghost use Rattle.spelling.specs.Spelling.{caseOf, columnOf, connectionOf, formOf, knownOf, lastOf, loaded, part, plainStage, readerOf, same, senderOf, settingsOf, stageOf, stateOf, verbOf};
+ghost use Rattle.laws.specs.Same.{same};
+ghost use Rattle.spelling.specs.Spelling.{caseOf, columnOf, connectionOf, formOf, knownOf, lastOf, loaded, part, plainStage, readerOf, senderOf, settingsOf, stageOf, stateOf, verbOf};
 use crate::Loaded;
 use crate::save::save;
 use code::Case;

@@ -1,18 +1,13 @@
 -- The arguments: `stop=N`, `place=N`, `place=unknown`, `case=letters`, and so on.
 use Prim.Native.Nat.{ℕ, _+_, _*_}
-use mathlib.Core.Bool.{Bool, true, false, cond}
+use mathlib.Core.Bool.{cond}
 use mathlib.Core.List.{List, [], _∷_}
-use lib.Dec.{eqb, ltb}
+use lib.Dec.{ltb}
 use lib.ListN.{length, take, drop}
+use Rattle.laws.specs.Same.{same}
 use Rattle.words.specs.Names.{Setting}
 use Rattle.words.specs.Names.setting
 use Rattle.words.specs.Words.{value}
-
-abbrev pub same : List ℕ → List ℕ → Bool
-same [] [] = true
-same [] (y ∷ ys) = false
-same (x ∷ xs) [] = false
-same (x ∷ xs) (y ∷ ys) = cond (eqb x y) (same xs ys) false
 
 -- a decimal number up to 255; 256 stands for none
 abbrev pub below : ℕ → ℕ

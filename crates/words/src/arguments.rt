@@ -1,7 +1,8 @@
 // Reads an argument: what it says of the printer, or of the start of the record.
 ghost use mathlib.Core.Path.{_≡_};
 ghost use Prim.Native.Nat.{_≤_};
-ghost use Rattle.words.specs.Arguments.{same, pushed, number, numberAfter, numbered, settingOf};
+ghost use Rattle.laws.specs.Same.{same};
+ghost use Rattle.words.specs.Arguments.{pushed, number, numberAfter, numbered, settingOf};
 use crate::Setting;
 
 // Two stretches of bytes are the same.

@@ -5,7 +5,7 @@ use mathlib.Core.Path.{_≡_, refl, sym, _∙_}
 use mathlib.Core.Bool.{_&&_}
 use native.Mathlib.Omega.{arith}
 use lib.ListN.{length, drop}
-use Rattle.spelling.specs.Spelling.{same}
+use Rattle.laws.specs.Same.{same}
 use Rattle.spelling.proofs.Same.{same-turn, same-end}
 use borrow.Author.Needs.{needs}
 use Rattle.spelling.proofs.load.same.Statement.{statement}

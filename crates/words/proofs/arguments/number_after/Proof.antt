@@ -10,7 +10,8 @@ use lib.ListN.{length, take, drop, length-drop}
 use lib.Seq.{take-all}
 use denote.Ref.{now}
 use borrow.Author.Tests.{lt-ltb, le-ltb}
-use Rattle.words.specs.Arguments.{same, number, numberAfter}
+use Rattle.laws.specs.Same.{same}
+use Rattle.words.specs.Arguments.{number, numberAfter}
 use borrow.Author.Needs.{needs}
 use Rattle.words.proofs.arguments.number_after.Statement.{statement}
 use Rattle.words.proofs.arguments.number_after.Tie as tie

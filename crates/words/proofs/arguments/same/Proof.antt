@@ -12,7 +12,7 @@ use lib.Dec.{eqb}
 use denote.Ref.{now}
 use borrow.Author.Needs.{needs}
 use borrow.Author.Tests.{eq-eqb, ne-eqb, eqb-true, eqb-false}
-use Rattle.words.specs.Arguments.{same}
+use Rattle.laws.specs.Same.{same}
 use Rattle.words.proofs.arguments.same.Statement.{statement}
 use Rattle.words.proofs.arguments.same.Tie as tie
 
