@@ -4,6 +4,7 @@ use Prim.Native.Nat.{ℕ}
 use mathlib.Core.Path.{_≡_, refl}
 use mathlib.Core.Bool.{Bool, true, false, cond}
 use mathlib.Core.List.{List, [], _∷_}
+use Rattle.laws.proofs.Either.{either-way}
 use Rattle.command.specs.Names.{Empty, Digits, Ex, Stage, Text, Swallow, Held, Begun, Lettered, Typed, Fields, Discard, Reader, Out, Step}
 use Rattle.command.specs.Read.{readAt, read, textOf, textAt, ByteRead}
 
@@ -16,10 +17,6 @@ of-out : (t : Bool) (x y : Out) → textOf (cond t x y) ≡ cond t (textOf x) (t
 of-out true x y = refl
 of-out false x y = refl
 
-same : (t : Bool) (w : List ℕ) → cond t w w ≡ w
-same true w = refl
-same false w = refl
-
 slash : (t : Bool) (v w : List ℕ) → cond t (47 ∷ v) (47 ∷ w) ≡ 47 ∷ cond t v w
 slash true v w = refl
 slash false v w = refl
@@ -28,13 +25,13 @@ text-at : (s : Stage) (values : List ℕ) (b : ℕ) → textOf (readAt s values 
 text-at Text values b = simp of-step
 text-at Swallow values b = simp of-step
 text-at Held values b = simp (of-step, slash)
-text-at Begun values b = simp (of-step, same)
-text-at (Lettered small t) values b = simp (of-step, same)
-text-at (Typed v) values b = simp (of-step, same)
-text-at (Fields v Empty last) values b = simp (of-step, of-out, same)
-text-at (Fields v Digits last) values b = simp (of-step, of-out, same)
-text-at (Fields v Ex last) values b = simp (of-step, of-out, same)
-text-at Discard values b = simp (of-step, same)
+text-at Begun values b = simp (of-step, either-way)
+text-at (Lettered small t) values b = simp (of-step, either-way)
+text-at (Typed v) values b = simp (of-step, either-way)
+text-at (Fields v Empty last) values b = simp (of-step, of-out, either-way)
+text-at (Fields v Digits last) values b = simp (of-step, of-out, either-way)
+text-at (Fields v Ex last) values b = simp (of-step, of-out, either-way)
+text-at Discard values b = simp (of-step, either-way)
 
 -- what is read has that text
 pub reads : {r : Reader} {b : ℕ} {s : Step} → s ≡ read r b → ByteRead r b s

@@ -4,6 +4,7 @@ use Prim.Native.Nat.{ℕ}
 use mathlib.Core.Path.{_≡_, refl, sym, ap, _∙_}
 use mathlib.Core.Bool.{Bool, true, not, _&&_}
 use mathlib.Core.List.{List, [], _∷_, _++_}
+use borrow.Author.Tests.{not-true}
 use lib.ListN.{length, take, drop}
 use Rattle.laws.proofs.Both.{both}
 use Rattle.code.specs.Rows.{rowAt}
@@ -15,7 +16,6 @@ use Rattle.settings.specs.Command.{commanded}
 use Rattle.settings.specs.Options.{endings, limit, onspace, onreturn, filter, reports, endingCodes}
 use Rattle.step.specs.State.{freshBox}
 use Rattle.step.specs.Step.{step, Event, run}
-use Rattle.linebox.proofs.Turns.{turned-true}
 use Rattle.demands.specs.Names.{State}
 use Rattle.demands.specs.Box.{ours}
 use Rattle.demands.specs.Connects.{connects}
@@ -40,7 +40,7 @@ all-plain s (e ∷ es) h =
     let p = both (plain s e) (allPlain x es) h in
     let q = both (not (connects s e)) (not (endings (s .settings)) && not (reports (s .settings))) (p .0) in
     let r = both (not (endings (s .settings))) (not (reports (s .settings))) (q .1) in
-    (record { stays = turned-true (connects s e) (q .0); endings = turned-true (endings (s .settings)) (r .0); reports = turned-true (reports (s .settings)) (r .1) }, all-plain x es (p .1))
+    (record { stays = not-true (connects s e) (q .0); endings = not-true (endings (s .settings)) (r .0); reports = not-true (reports (s .settings)) (r .1) }, all-plain x es (p .1))
 
 -- The calls.
 

@@ -2,18 +2,18 @@
 -- Assumes nothing.
 use Prim.Native.Nat.{ℕ, _+_, _-_, _≤_}
 use mathlib.Core.Path.{_≡_, refl, sym, ap, _∙_}
-use mathlib.Core.List.{List, [], _∷_, _++_}
+use mathlib.Core.List.{List, [], _++_}
 use native.Mathlib.Omega.{arith}
-use native.Mathlib.Nat.{le-of-eq}
+use native.Mathlib.Nat.{zero-add}
 use borrow.Rule.Slice.PartMut.{putMid, midOf}
-use lib.ListN.{length, drop, set, length-append, length-drop}
-use lib.Seq.{take-all}
+use lib.ListN.{length, length-append, length-drop}
+use lib.Seq.{sets, sets-eq, length-sets}
 use Rattle.laws.specs.Written.{written, fronted, Filled}
-use Rattle.laws.proofs.Tail.{written-none, lent, fronted-more, length-fronted}
+use Rattle.laws.proofs.Tail.{to-end, written-none, lent, fronted-more, length-fronted}
 
 -- the part still free
 pub free-length : (xs : List ℕ) (k : ℕ) → length (midOf k (length xs - k) xs) ≡ length xs - k
-free-length xs k = rw (take-all (length xs - k) (drop k xs) (le-of-eq (length-drop k xs))) (length-drop k xs)
+free-length xs k = rw (to-end xs k) (length-drop k xs)
 
 pub filled-more : (old now p f ys : List ℕ) (k : ℕ) → Filled old now p k → length f ≤ length old - k → ys ≡ fronted (midOf k (length now - k) now) f
     → Filled old (putMid k (length now - k) now ys) (p ++ f) (k + length f)
@@ -41,12 +41,6 @@ filled-on old now p f ys k m h i =
     let fits : length f ≤ length old - k = omega (arith, i .count, i .room, free-length now k, h .same-length) in
     rw (i .count) (filled-more old now p f ys k h fits (i .places))
 
--- one element at the front, and two
-pub filled-one : (d : List ℕ) (x : ℕ) → 1 ≤ length d → Filled d (set d 0 x) (x ∷ []) 1
-filled-one [] x h = absurd (omega arith)
-filled-one (y ∷ d) x h = record { count = refl; room = h; same-length = refl; places = refl }
-
-pub filled-two : (d : List ℕ) (x y : ℕ) → 2 ≤ length d → Filled d (set (set d 0 x) 1 y) (x ∷ y ∷ []) 2
-filled-two [] x y h = absurd (omega arith)
-filled-two (z ∷ []) x y h = absurd (omega arith)
-filled-two (z ∷ w ∷ d) x y h = record { count = refl; room = h; same-length = refl; places = refl }
+-- elements stored one by one from the start
+pub filled-sets : (old new : List ℕ) → length new ≤ length old → Filled old (sets old 0 new) new (length new)
+filled-sets old new h = record { count = refl; room = h; same-length = length-sets old 0 new; places = rw zero-add at (sets-eq new old 0 (rw zero-add h)) }

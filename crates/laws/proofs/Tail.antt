@@ -3,12 +3,20 @@
 use Prim.Native.Nat.{ℕ, _+_, _-_, _≤_}
 use mathlib.Core.Path.{_≡_, refl, sym}
 use mathlib.Core.List.{List, [], _∷_, _++_, append-assoc, append-nil}
-use native.Mathlib.Nat.{add-assoc, add-zero, zero-add, le-of-eq}
+use native.Mathlib.Nat.{add-assoc, add-zero, zero-add, sub-zero, le-of-eq}
 use native.Mathlib.Omega.{arith}
 use borrow.Rule.Slice.PartMut.{putMid, midOf}
 use lib.ListN.{length, take, drop, length-append, length-drop, drop-of-length-le, take-append-drop}
 use lib.Seq.{length-take-le, take-at, drop-at, drop-drop, take-all}
 use Rattle.laws.specs.Written.{written, fronted}
+
+-- a part that starts at the start
+pub from-start : (xs : List ℕ) (n : ℕ) → take (n - 0) xs ≡ take n xs
+from-start xs n = rw sub-zero
+
+-- a part that ends at the end
+pub to-end : (xs : List ℕ) (n : ℕ) → take (length xs - n) (drop n xs) ≡ drop n xs
+to-end xs n = take-all (length xs - n) (drop n xs) (le-of-eq (length-drop n xs))
 
 -- nothing written
 pub written-none : (old : List ℕ) (at : ℕ) → old ≡ written old at []
@@ -17,9 +25,8 @@ written-none old at = rw add-zero (sym (take-append-drop at old))
 -- the tail from `k`, lent and come back with `new` at its front
 pub lent : (xs ys : List ℕ) (k : ℕ) (new : List ℕ) → ys ≡ fronted (midOf k (length xs - k) xs) new → putMid k (length xs - k) xs ys ≡ written xs k new
 lent xs ys k new e =
-    let all : midOf k (length xs - k) xs ≡ drop k xs = take-all _ _ (le-of-eq (length-drop k xs)) in
     let none : drop (length xs - k) (drop k xs) ≡ [] = drop-of-length-le _ (le-of-eq (length-drop k xs)) in
-    rw (e, all, none, append-nil, drop-drop)
+    rw (e, to-end xs k, none, append-nil, drop-drop)
 
 module _ (old : List ℕ) (at : ℕ) (new : List ℕ) (fits : at + length new ≤ length old) where
   front : length (take at old ++ new) ≡ at + length new

@@ -2,18 +2,18 @@
 -- Assumes nothing.
 use Prim.Native.Nat.{ℕ, suc, _+_, _-_, _≤_, _<_}
 use mathlib.Core.Path.{_≡_, refl, sym, ap, _∙_}
-use mathlib.Core.Bool.{Bool, true, false, not}
+use mathlib.Core.Bool.{Bool, true, false}
 use mathlib.Core.List.{List, [], _∷_, _++_, append-nil, append-assoc}
 use native.Mathlib.Omega.{arith}
 use native.Mathlib.Numerals.{add-one}
-use native.Mathlib.Nat.{zero-add, add-zero, sub-zero, le-of-eq}
+use native.Mathlib.Nat.{zero-add, add-zero, sub-zero}
 use borrow.Rule.Slice.PartMut.{putMid, midOf}
 use borrow.Author.Tests.{leb-true}
 use lib.Dec.{leb}
 use lib.ListN.{length, getD, take, drop, drop-of-length-le, length-append, length-drop}
-use lib.Seq.{drop-cons, drop-drop, getD-drop, take-all}
+use lib.Seq.{drop-cons, drop-drop, getD-drop}
 use Rattle.laws.specs.Written.{written, fronted, Filled}
-use Rattle.laws.proofs.Tail.{lent, fronted-more, length-fronted}
+use Rattle.laws.proofs.Tail.{to-end, lent, fronted-more, length-fronted}
 use Rattle.linebox.specs.Names.{State, Stream, Host, Answer, NoRoom, Taken, Ran}
 use Rattle.step.specs.State.{sound, withReader}
 use Rattle.step.specs.Step.{Step, hosted, step}
@@ -29,15 +29,6 @@ use Rattle.linebox.proofs.Kept.{kept}
 use Rattle.laws.proofs.Filled.{free-length, filled-more, filled-on, unfilled}
 use Rattle.laws.proofs.Both.{both}
 
--- a test that was turned round
-pub turned-true : (b : Bool) → not b ≡ true → b ≡ false
-turned-true true h = sym h
-turned-true false h = refl
-
-pub turned-false : (b : Bool) → not b ≡ false → b ≡ true
-turned-false true h = refl
-turned-false false h = sym h
-
 -- a run more before the rest
 joined : (n m : ℕ) (p new q : List ℕ) (d : Done) → before n p q (before m new [] d) ≡ before (n + m) (p ++ new) q d
 joined n m p new q d =
@@ -48,10 +39,6 @@ joined-none : (n m : ℕ) (p q : List ℕ) (d : Done) → before n p q (before m
 joined-none n m p q d =
     let u : n + (m + d .taken) ≡ n + m + d .taken = omega arith in
     rw u
-
--- the bytes still to come
-rest-of : (xs : List ℕ) (n : ℕ) → take (length xs - n) (drop n xs) ≡ drop n xs
-rest-of xs n = take-all (length xs - n) (drop n xs) (le-of-eq (length-drop n xs))
 
 -- a byte more before the rest
 moved : (t : Stream) (x : Step) (n : ℕ) (p q : List ℕ) (d : Done) → before n p q (onward t x d) ≡ before (n + 1) (p ++ firstOf t x) (q ++ secondOf t x) d
@@ -97,7 +84,7 @@ module _ (t : Stream) (start : State) (input old₁ old₂ : List ℕ) where
       → Runs t s (take (length input - n) (drop n input)) (midOf k₁ (length now₁ - k₁) now₁) ys x
       → Reached t start input old₁ old₂ (x .state) (n + x .taken) (putMid k₁ (length now₁ - k₁) now₁ ys) now₂ (k₁ + x .count) k₂
   ran s n now₁ now₂ ys k₁ k₂ x r f =
-      let g : Runs t s (drop n input) (midOf k₁ (length now₁ - k₁) now₁) ys x = rw (rest-of input n) at f in
+      let g : Runs t s (drop n input) (midOf k₁ (length now₁ - k₁) now₁) ys x = rw (to-end input n) at f in
       let a : length (midOf k₁ (length now₁ - k₁) now₁) ≡ length old₁ - k₁ = free-length now₁ k₁ ∙ ap (λ (l : ℕ). l - k₁) (r .one .same-length) in
       let u : length old₁ - k₁ - x .count ≡ length old₁ - (k₁ + x .count) = omega arith in
       let e : taking t s (drop n input) (length old₁ - k₁) (length old₂ - k₂) ≡ before (x .taken) (g .new) [] (taking t (x .state) (drop (n + x .taken) input) (length old₁ - (k₁ + x .count)) (length old₂ - k₂)) = rw (a, u, drop-drop (x .taken) n input) at (g .rest (length old₂ - k₂)) in
@@ -179,7 +166,7 @@ pub kept-on : (start : State) (input old₁ old₂ : List ℕ) (s : State) (n : 
     → (u : Running) → u ≡ running (s .reader) (take (length input - n) (drop n input))
     → Reached Host start input old₁ old₂ (withReader s (u .reader)) (n + u .taken) now₁ now₂ k₁ k₂
 kept-on start input old₁ old₂ s n now₁ now₂ k₁ k₂ r u h =
-    let v : u ≡ running (s .reader) (drop n input) = rw (rest-of input n) at h in
+    let v : u ≡ running (s .reader) (drop n input) = rw (to-end input n) at h in
     let k = kept s (drop n input) (length old₁ - k₁) (length old₂ - k₂) (r .is-sound) in
     let w = run-within (s .reader) (drop n input) in
     rw v (record {
@@ -196,7 +183,7 @@ kept-on start input old₁ old₂ s n now₁ now₂ k₁ k₂ r u h =
 pub read-next : (s : State) (input : List ℕ) (n : ℕ) (u : Running) → u ≡ running (s .reader) (take (length input - n) (drop n input)) → n + u .taken < length input
     → hosted (withReader (withReader s (u .reader)) (u .next .reader)) (u .reader .values) (u .next .out) ≡ step Host (withReader s (u .reader)) (getD input (n + u .taken) 0)
 read-next s input n u h lt =
-    let v : u ≡ running (s .reader) (drop n input) = rw (rest-of input n) at h in
+    let v : u ≡ running (s .reader) (drop n input) = rw (to-end input n) at h in
     let w : running (s .reader) (drop n input) .taken < length (drop n input) = omega (arith, length-drop n input, ap (λ (z : Running). z .taken) v) in
     let e : u .next ≡ read (u .reader) (getD input (n + u .taken) 0) = rw v (run-next (s .reader) (drop n input) w ∙ rw (getD-drop n input (running (s .reader) (drop n input) .taken) 0)) in
     rw e

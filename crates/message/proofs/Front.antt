@@ -2,13 +2,14 @@
 -- Assumes nothing.
 use Prim.Native.Nat.{ℕ, suc, _+_}
 use mathlib.Core.Path.{_≡_, refl, sym, ap, _∙_}
-use mathlib.Core.Bool.{Bool, true, false, cond, _&&_}
+use mathlib.Core.Bool.{Bool, true, false, cond, _&&_, false≢true}
 use mathlib.Core.List.{List, [], _∷_, _++_}
 use native.Mathlib.Nat.{add-zero, zero-add}
 use native.Mathlib.Omega.{arith}
 use borrow.Author.Tests.{eqb-true}
 use lib.Dec.{eqb}
 use lib.ListN.{length, drop}
+use Rattle.laws.proofs.Both.{both}
 use Rattle.message.specs.declared.Scan.{Scan}
 use Rattle.message.specs.declared.Scan.the-variants.{Bad, Opening, Comma, In}
 use Rattle.message.specs.declared.Numbers.the-variants.{Nothing, Bytes}
@@ -16,8 +17,7 @@ use Rattle.message.specs.Message.{crlf, mark, numbers, framed}
 use Rattle.message.specs.Find.{AllBytes, Counted}
 use Rattle.message.specs.Scan.{scan, complete, prefix, endsHere, numbersFrom, messageAt}
 use Rattle.message.proofs.Prefix.{prefix-front}
-use Rattle.message.proofs.Turns.{and-both}
-use Rattle.message.proofs.Reading.{run, false-true, all-read, read-numbered}
+use Rattle.message.proofs.Reading.{run, all-read, read-numbered}
 
 pub nothing : (m : ℕ) → Nothing ≡ Bytes m → ⊥
 nothing m e = let z : _≡_ {A = ℕ} 0 1 = cc in omega arith
@@ -36,7 +36,7 @@ ended-here st k s m e = go (prefix crlf s && complete st) refl e
   where
     go : (t : Bool) → prefix crlf s && complete st ≡ t → cond t (Bytes k) Nothing ≡ Bytes m → Ended st k s m
     go true f d =
-        let b = and-both (prefix crlf s) (complete st) f in
+        let b = both (prefix crlf s) (complete st) f in
         let z : m ≡ k = cc in
         record { w = []; rest = drop 2 s; spelt = prefix-front crlf s (b .0); long = z ∙ sym (add-zero k); done = b .1 }
     go false f d = absurd (nothing m d)
@@ -70,7 +70,7 @@ reaches st k (b ∷ w) rest e = go (eqb b 13) refl (reaches (scan st b) (suc k) 
   where
     go : (t : Bool) → eqb b 13 ≡ t → numbersFrom (scan st b) (suc k) (w ++ crlf ++ rest) ≡ Bytes (suc k + length w)
         → cond t (endsHere st k (b ∷ w ++ crlf ++ rest)) (numbersFrom (scan st b) (suc k) (w ++ crlf ++ rest)) ≡ Bytes (k + suc (length w))
-    go true d r = absurd (false-true (rw (eqb-true b 13 d, cr-bad st, bad w) at e))
+    go true d r = absurd (false≢true (rw (eqb-true b 13 d, cr-bad st, bad w) at e))
     go false d r = let l : suc k + length w ≡ k + suc (length w) = omega arith in r ∙ rw l
 
 -- ---- a message

@@ -2,7 +2,7 @@
 -- Assumes nothing.
 use Prim.Native.Nat.{ℕ, _+_, _≤_, _<_}
 use mathlib.Core.Path.{_≡_, refl, ap}
-use mathlib.Core.Bool.{Bool, true, false, _&&_}
+use mathlib.Core.Bool.{Bool, true, false, _&&_, and-assoc}
 use mathlib.Core.List.{List, [], _∷_, _++_}
 use native.Mathlib.Numerals.{add-one}
 use native.Mathlib.Omega.{arith}
@@ -24,10 +24,6 @@ module _ (w s : List ℕ) (i k : ℕ) where
 
   pub same : i < length w → k < length s → getD s k 0 ≡ getD w i 0 → prefix (drop i w) (drop k s) ≡ prefix (drop (i + 1) w) (drop (k + 1) s)
   same h l e = rw (drop-cons w i 0 h, drop-cons s k 0 l, eq-eqb _ _ e, add-one i, add-one k)
-
-and-assoc : (a b c : Bool) → (a && b) && c ≡ a && (b && c)
-and-assoc true b c = refl
-and-assoc false b c = refl
 
 -- two words, one after the other
 pub prefix-append : (v w s : List ℕ) → prefix (v ++ w) s ≡ prefix v s && prefix w (drop (length v) s)

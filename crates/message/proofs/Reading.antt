@@ -2,7 +2,7 @@
 -- Assumes nothing.
 use Prim.Native.Nat.{ℕ, zero, suc, _+_, _*_, _-_, _/_, _%_, _≤_, _<_}
 use mathlib.Core.Path.{_≡_, refl, sym, _∙_}
-use mathlib.Core.Bool.{Bool, true, false, cond}
+use mathlib.Core.Bool.{Bool, true, false, cond, false≢true}
 use mathlib.Core.List.{List, [], _∷_, _++_, append-assoc, append-nil}
 use native.Mathlib.Nat.{not-suc-le-zero}
 use native.Mathlib.Omega.{arith}
@@ -22,9 +22,6 @@ use Rattle.message.specs.Scan.{ended, whole, isDigit, more, scan, comple
 use Rattle.message.proofs.Digits.{one-digit}
 use Rattle.message.proofs.Sizes.{numbers-append}
 use Rattle.message.proofs.Turns.{digit-bounds, more-fits, in-digit}
-
-pub false-true : false ≡ true → ⊥
-false-true e = let z : _≡_ {A = ℕ} 0 1 = cc in omega arith
 
 -- the bytes of w, from a state on
 abbrev pub run : Scan → List ℕ → Scan
@@ -57,8 +54,8 @@ left (suc n) (v ∷ values) =
     rw (eqb·suc-zero n, s, eqb·suc-suc n (length values)) (left n values)
 
 pub counted : (ns : List ℕ) → whole (reads First ns) ≡ true → Counted ns
-counted [] e = false-true e
-counted (id ∷ []) e = false-true e
+counted [] e = false≢true e
+counted (id ∷ []) e = false≢true e
 counted (id ∷ n ∷ values) e = eqb-true n (length values) (sym (left n values) ∙ e)
 
 pub whole-of : (ns : List ℕ) → Counted ns → whole (reads First ns) ≡ true
@@ -207,9 +204,9 @@ pub record Numbered (w : List ℕ) : Type 0 where
   pub spelt : w ≡ numbers ns
 
 ending : (st : Scan) (w : List ℕ) → Read st w → complete st ≡ true → Numbered w
-ending Bad w r e = absurd (false-true e)
-ending Opening w r e = absurd (false-true e)
-ending (Comma p) w r e = absurd (false-true e)
+ending Bad w r e = absurd (false≢true e)
+ending Opening w r e = absurd (false≢true e)
+ending (Comma p) w r e = absurd (false≢true e)
 ending (In p v) w r e =
     let f = finished p v w (r .0) (r .1) in
     record { ns = f .ns; bytes = f .bytes; count = counted (f .ns) (rw (f .phase) at e); spelt = f .spelt ∙ append-nil (numbers (f .ns)) }

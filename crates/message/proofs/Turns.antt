@@ -10,6 +10,7 @@ use borrow.Author.Tests.{eq-eqb, ne-eqb, le-leb, lt-leb, leb-true}
 use lib.Dec.{leb}
 use lib.ListN.{length, getD, drop, drop-of-length-le, length-drop}
 use lib.Seq.{drop-cons, drop-drop}
+use Rattle.laws.proofs.Both.{both}
 use Rattle.message.specs.declared.Phase.{Phase}
 use Rattle.message.specs.declared.Scan.{Scan}
 use Rattle.message.specs.declared.Scan.the-variants.{Bad, Opening, Comma, In}
@@ -18,12 +19,8 @@ use Rattle.message.specs.Message.{crlf, mark}
 use Rattle.message.specs.Scan.{isDigit, more, ended, scan, complete, prefix, endsHere, numbersFrom, messageAt}
 use Rattle.message.proofs.Prefix.{prefix-append, prefix-length}
 
-pub and-both : (a b : Bool) → a && b ≡ true → (a ≡ true) × (b ≡ true)
-and-both true b e = (refl, e)
-and-both false b e = let z : _≡_ {A = Bool} false true = e in (cc, cc)
-
 pub digit-bounds : (b : ℕ) → isDigit b ≡ true → (48 ≤ b) × (b ≤ 57)
-digit-bounds b e = let p = and-both (leb 48 b) (leb b 57) e in (leb-true _ _ (p .0), leb-true _ _ (p .1))
+digit-bounds b e = let p = both (leb 48 b) (leb b 57) e in (leb-true _ _ (p .0), leb-true _ _ (p .1))
 
 module _ (p : Phase) (v b : ℕ) where
   pub more-zero : v ≡ 0 → Bad ≡ more p v b
@@ -75,17 +72,17 @@ module _ (s : List ℕ) (at : ℕ) where
   pub mark-room : prefix mark (drop (at + 2) s) ≡ true → at + 6 ≤ length s
   mark-room e = omega (arith, simp length-drop at (prefix-length mark (drop (at + 2) s) e))
 
-  both : prefix (crlf ++ mark) (drop at s) ≡ prefix crlf (drop at s) && prefix mark (drop (at + 2) s)
-  both = prefix-append crlf mark (drop at s) ∙ rw drop-drop
+  parted : prefix (crlf ++ mark) (drop at s) ≡ prefix crlf (drop at s) && prefix mark (drop (at + 2) s)
+  parted = prefix-append crlf mark (drop at s) ∙ rw drop-drop
 
   pub begun : prefix crlf (drop at s) ≡ true → prefix mark (drop (at + 2) s) ≡ true → numbersFrom Opening 0 (drop (at + 6) s) ≡ messageAt (drop at s)
-  begun e f = rw (both, e, f, drop-drop)
+  begun e f = rw (parted, e, f, drop-drop)
 
   pub no-start : prefix crlf (drop at s) ≡ false → Nothing ≡ messageAt (drop at s)
-  no-start e = rw (both, e)
+  no-start e = rw (parted, e)
 
   pub no-mark : prefix mark (drop (at + 2) s) ≡ false → Nothing ≡ messageAt (drop at s)
-  no-mark f = rw (both, f) (go (prefix crlf (drop at s)))
+  no-mark f = rw (parted, f) (go (prefix crlf (drop at s)))
     where
       go : (b : Bool) → Nothing ≡ cond (b && false) (numbersFrom Opening 0 (drop 6 (drop at s))) Nothing
       go true = refl

@@ -12,6 +12,7 @@ use borrow.Rule.Slice.PartMut.{putMid, midOf}
 use lib.ListN.{length, getD, drop, drop-of-length-le}
 use lib.Seq.{drop-cons}
 use Rattle.laws.specs.Written.{Filled}
+use Rattle.laws.proofs.Either.{either-way}
 use Rattle.laws.proofs.Filled.{filled-none, filled-on}
 use Rattle.sender.specs.Names.{Conversion, Nothing, Free, Cased, Settings, Sender, Asks, Item}
 use Rattle.sender.specs.Item.{items, afterItems, wantedOf}
@@ -39,11 +40,6 @@ moved n p cs d =
     let u : n + suc (d .taken) ≡ n + 1 + d .taken = omega arith in
     rw (u, append-assoc p cs (d .codes))
 
--- the same whatever the test
-same : {A : Type 0} (b : Bool) (x : A) → cond b x x ≡ x
-same true x = refl
-same false x = refl
-
 -- where the loop is: n bytes are sent as p, and the rest is still to come
 pub record Sending (o : Settings) (start : Sender) (first : Asks) (plain : Bool) (bytes old : List ℕ) (s : Sender) (asks : Asks) (n : ℕ) (now : List ℕ) (k : ℕ) : Type 0 where
   pub p : List ℕ
@@ -69,7 +65,7 @@ module _ (o : Settings) (start : Sender) (first : Asks) (plain : Bool) (bytes ol
       cs = items o s (wantedOf (converted asks (getD bytes n 0)))
 
       pub no-room : leb (length cs) (length now - k) ≡ false → Sends (sends o start first plain bytes (length old)) old now (record { sender = s; asks = asks; taken = n; count = k })
-      no-room h = stops (rw (drop-cons bytes n 0 lt, ← e .places .same-length, h) (same (plain && isSpecial asks (getD bytes n 0)) (stopped s asks)))
+      no-room h = stops (rw (drop-cons bytes n 0 lt, ← e .places .same-length, h) (either-way (plain && isSpecial asks (getD bytes n 0)) (stopped s asks)))
 
       pub at-special : (plain && isSpecial asks (getD bytes n 0)) ≡ true → Sends (sends o start first plain bytes (length old)) old now (record { sender = s; asks = asks; taken = n; count = k })
       at-special z = stops (rw (drop-cons bytes n 0 lt, z))

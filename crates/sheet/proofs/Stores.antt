@@ -1,34 +1,14 @@
--- Two to four stores at the front of a list, and the words of one number more.
+-- A word by its digits, and the words of one number more.
 -- Assumes nothing.
-use Prim.Native.Nat.{ℕ, _+_, _≤_, _<_}
+use Prim.Native.Nat.{ℕ, _+_, _<_}
 use mathlib.Core.Path.{_≡_, refl, sym, ap, _∙_}
 use mathlib.Core.List.{List, [], _∷_, _++_, append-nil, append-assoc}
-use native.Mathlib.Omega.{arith}
 use native.Mathlib.Numerals.{add-one}
-use lib.ListN.{length, getD, take, set}
+use lib.ListN.{length, getD, take}
 use lib.Seq.{take-suc}
 use Rattle.laws.specs.Written.{fronted}
 use Rattle.message.specs.Message.{digits}
 use Rattle.sheet.specs.Words.{word, words}
-
-module _ (a b : ℕ) where
-  pub two : (l : List ℕ) → 4 ≤ length l → set (set l 0 a) 1 b ≡ fronted l (a ∷ b ∷ [])
-  two [] h = absurd (omega arith)
-  two (w ∷ []) h = absurd (omega arith)
-  two (w ∷ x ∷ l) h = refl
-
-  pub three : (c : ℕ) (l : List ℕ) → 4 ≤ length l → set (set (set l 0 a) 1 b) 2 c ≡ fronted l (a ∷ b ∷ c ∷ [])
-  three c [] h = absurd (omega arith)
-  three c (w ∷ []) h = absurd (omega arith)
-  three c (w ∷ x ∷ []) h = absurd (omega arith)
-  three c (w ∷ x ∷ y ∷ l) h = refl
-
-  pub four : (c d : ℕ) (l : List ℕ) → 4 ≤ length l → set (set (set (set l 0 a) 1 b) 2 c) 3 d ≡ fronted l (a ∷ b ∷ c ∷ d ∷ [])
-  four c d [] h = absurd (omega arith)
-  four c d (w ∷ []) h = absurd (omega arith)
-  four c d (w ∷ x ∷ []) h = absurd (omega arith)
-  four c d (w ∷ x ∷ y ∷ []) h = absurd (omega arith)
-  four c d (w ∷ x ∷ y ∷ z ∷ l) h = refl
 
 -- a word put by its digits
 pub put-as : (n : ℕ) (w l new : List ℕ) (r : ℕ) → digits n ≡ w → r ≡ length (32 ∷ w) → new ≡ fronted l (32 ∷ w) → (r ≡ length (word n)) × (new ≡ fronted l (word n))

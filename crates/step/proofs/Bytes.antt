@@ -6,6 +6,7 @@ use mathlib.Core.Bool.{Bool, true, false, cond, and-true}
 use mathlib.Core.List.{List, []}
 use lib.Dec.{leb·zero}
 use lib.ListN.{length}
+use Rattle.laws.proofs.Either.{either-way}
 use Rattle.step.specs.Names.{State, Stream, Took}
 use Rattle.step.specs.Step.{Step}
 use Rattle.step.specs.Byte.{firstOf, secondOf}
@@ -14,10 +15,6 @@ use Rattle.step.specs.Byte.{Puts, Offers, none, inFirst, inSecond}
 pub puts-none : (s : State) (old : List ℕ) → Puts s [] old old (none s)
 puts-none s old = record { fits = sym (leb·zero (length old)); state = refl; count = refl; places = refl }
 
-same : {A : Type 0} (b : Bool) (x : A) → x ≡ cond b x x
-same true x = refl
-same false x = refl
-
 module _ (t : Stream) (x : Step) (r : Took) (old₁ old₂ now : List ℕ) where
   -- nothing for the second buffer
   pub offers-first : secondOf t x ≡ [] → Puts (x .state) (firstOf t x) old₁ now r → Offers t x old₁ old₂ now old₂ (inFirst r)
@@ -25,9 +22,9 @@ module _ (t : Stream) (x : Step) (r : Took) (old₁ old₂ now : List ℕ) where
     fits = rw (e, leb·zero, and-true) (p .fits);
     state = p .state;
     first = p .count;
-    second = rw e (same (r .fits) 0);
+    second = rw e (sym (either-way (r .fits) 0));
     one = p .places;
-    two = rw e (same (r .fits) old₂);
+    two = rw e (sym (either-way (r .fits) old₂));
   }
 
   -- nothing for the first buffer
@@ -35,8 +32,8 @@ module _ (t : Stream) (x : Step) (r : Took) (old₁ old₂ now : List ℕ) where
   offers-second e p = record {
     fits = rw (e, leb·zero) (p .fits);
     state = p .state;
-    first = rw e (same (r .fits) 0);
+    first = rw e (sym (either-way (r .fits) 0));
     second = p .count;
-    one = rw e (same (r .fits) old₁);
+    one = rw e (sym (either-way (r .fits) old₁));
     two = p .places;
   }

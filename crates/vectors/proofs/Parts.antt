@@ -1,22 +1,14 @@
--- Parts of a text: from its start, and at its first bar.
+-- Parts of a text at its first bar.
 -- Assumes nothing.
 use Prim.Native.Nat.{ℕ, suc, _+_, _-_, _≤_}
 use mathlib.Core.Path.{_≡_, sym, _∙_}
 use mathlib.Core.List.{List, []}
 use native.Mathlib.Omega.{arith}
-use native.Mathlib.Nat.{le-of-eq}
 use native.Mathlib.Numerals.{add-one}
-use lib.ListN.{length, take, drop, length-drop, drop-of-length-le}
-use lib.Seq.{take-all, take-length}
+use lib.ListN.{length, take, drop, drop-of-length-le}
+use lib.Seq.{take-length}
+use Rattle.laws.proofs.Tail.{from-start, to-end}
 use Rattle.bytes.specs.Bytes.{indexOf, slice}
-
--- a part that starts at the start
-pub from-start : (s : List ℕ) (n : ℕ) → take (n - 0) s ≡ take n s
-from-start s n = let z : n - 0 ≡ n = omega arith in rw z
-
--- a part that ends at the end
-pub to-end : (s : List ℕ) (n : ℕ) → take (length s - n) (drop n s) ≡ drop n s
-to-end s n = take-all (length s - n) (drop n s) (le-of-eq (length-drop n s))
 
 -- the first bar of the whole text
 pub bar : (s : List ℕ) (r : ℕ) → r ≡ 0 + indexOf 124 (slice 0 (length s) s) → r ≡ indexOf 124 s

@@ -1,12 +1,11 @@
 -- `linebox::calls::rest` meets its contract: past the end nothing is left.
 -- Assumes nothing.
 use mathlib.Core.Path.{sym}
-use native.Mathlib.Nat.{le-of-eq}
 use native.Mathlib.Omega.{arith}
 use denote.Ref.{now}
 use Prim.Native.Nat.{_≤_}
-use lib.ListN.{length, length-drop, drop-of-length-le}
-use lib.Seq.{take-all}
+use lib.ListN.{length, drop-of-length-le}
+use Rattle.laws.proofs.Tail.{to-end}
 use borrow.Author.Needs.{needs}
 use Rattle.linebox.proofs.calls.rest.Statement.{statement}
 use Rattle.linebox.proofs.calls.rest.Tie as tie
@@ -30,7 +29,7 @@ part-result-end-2 : tie.Need-part-result-end-2
 part-result-end-2 c = search needs
 
 returns : tie.Need-returns
-returns c = take-all _ _ (le-of-eq (length-drop (c .before .before .args .taken) (now (c .before .before .args .input))))
+returns c = to-end (now (c .before .before .args .input)) (c .before .before .args .taken)
 
 returns-2 : tie.Need-returns-2
 returns-2 c =

@@ -13,8 +13,9 @@ use borrow.Rule.Slice.PartMut.{putMid}
 use Rattle.linebox.specs.Names.{Host, All}
 use Rattle.laws.proofs.Filled.{unfilled}
 use Rattle.step.proofs.Stays.{sound-parts}
-use Rattle.linebox.proofs.Turns.{turned-true, turned-false, Reached, reached, ran, kept-on, read-next, stops, all-taken, stays, turn}
+use Rattle.linebox.proofs.Turns.{Reached, reached, ran, kept-on, read-next, stops, all-taken, stays, turn}
 use borrow.Author.Needs.{needs}
+use borrow.Author.Tests.{not-true, not-false}
 use Rattle.linebox.proofs.calls.take_host.Statement.{statement}
 use Rattle.linebox.proofs.calls.take_host.Tie as tie
 
@@ -205,7 +206,7 @@ same-length-3 c =
     let w = q .before .before .before .before .before in
     let d = w .before .before .before .before .before .before .before .before .before .before .before in
     let l = d .before .before .before .before .loop in
-    ap length (unfilled _ _ (l .one + d .take-text .result .count) (rw (turned-true (q .put-read .result .fits) (e .if2 .taken)) at (q .put-read .ensures .one))) ∙ kept-of w .one .same-length
+    ap length (unfilled _ _ (l .one + d .take-text .result .count) (rw (not-true (q .put-read .result .fits) (e .if2 .taken)) at (q .put-read .ensures .one))) ∙ kept-of w .one .same-length
 
 same-length-4 : tie.Need-same-length-4 Inv-loop μ-loop
 same-length-4 c =
@@ -214,7 +215,7 @@ same-length-4 c =
     let w = q .before .before .before .before .before in
     let d = w .before .before .before .before .before .before .before .before .before .before .before in
     let l = d .before .before .before .before .loop in
-    ap length (unfilled (l .host) _ (l .two) (rw (turned-true (q .put-read .result .fits) (e .if2 .taken)) at (q .put-read .ensures .two))) ∙ kept-of w .two .same-length
+    ap length (unfilled (l .host) _ (l .two) (rw (not-true (q .put-read .result .fits) (e .if2 .taken)) at (q .put-read .ensures .two))) ∙ kept-of w .two .same-length
 
 returns-2 : tie.Need-returns-2 Inv-loop μ-loop
 returns-2 c =
@@ -228,7 +229,7 @@ returns-2 c =
     let x = d .take-text .result in
     let u = w .before .before .before .run .result in
     rw (c .ended2 .ensures)
-    (stays Host (a .start) (now (a .input)) (now (a .line)) (now (a .host)) (w .with-reader .result) (l .taken + x .taken + u .taken) (i .if1 .left) _ (l .host) _ _ (l .one + x .count) (l .two) _ (kept-of w) refl (rw (next-of w (i .if1 .left)) at (q .put-read .ensures)) (turned-true _ (e .if2 .taken)))
+    (stays Host (a .start) (now (a .input)) (now (a .line)) (now (a .host)) (w .with-reader .result) (l .taken + x .taken + u .taken) (i .if1 .left) _ (l .host) _ _ (l .one + x .count) (l .two) _ (kept-of w) refl (rw (next-of w (i .if1 .left)) at (q .put-read .ensures)) (not-true _ (e .if2 .taken)))
 
 abbrev start-of : tie.Else2 Inv-loop μ-loop → tie.Start Inv-loop μ-loop
 start-of e =
@@ -257,7 +258,7 @@ turn-of e =
     let a = d .before .before .before .before .before .before .before .before .args in
     let x = d .take-text .result in
     let u = w .before .before .before .run .result in
-    turn Host (a .start) (now (a .input)) (now (a .line)) (now (a .host)) (w .with-reader .result) (l .taken + x .taken + u .taken) (i .if1 .left) _ (l .host) _ _ (l .one + x .count) (l .two) _ (kept-of w) refl (rw (next-of w (i .if1 .left)) at (q .put-read .ensures)) (turned-false _ (e .if2 .left))
+    turn Host (a .start) (now (a .input)) (now (a .line)) (now (a .host)) (w .with-reader .result) (l .taken + x .taken + u .taken) (i .if1 .left) _ (l .host) _ _ (l .one + x .count) (l .two) _ (kept-of w) refl (rw (next-of w (i .if1 .left)) at (q .put-read .ensures)) (not-false _ (e .if2 .left))
 
 add-one-2 : tie.Need-add-one-2 Inv-loop μ-loop
 add-one-2 c =

@@ -5,11 +5,11 @@ use Prim.Native.Nat.{_≤_, _<_, _+_, _-_}
 use denote.Ref.{now}
 use mathlib.Core.Path.{_≡_, ap, sym, _∙_}
 use native.Mathlib.Omega.{arith}
-use borrow.Author.Tests.{lt-ltb, le-ltb}
+use borrow.Author.Tests.{lt-ltb, le-ltb, not-true, not-false}
 use lib.ListN.{length}
 use Rattle.linebox.specs.Names.{Line, All, NoCode}
 use Rattle.laws.proofs.Filled.{unfilled}
-use Rattle.linebox.proofs.Turns.{turned-true, turned-false, Reached, reached, stops, all-taken, no-code, stays, turn, turn-rooms}
+use Rattle.linebox.proofs.Turns.{Reached, reached, stops, all-taken, no-code, stays, turn, turn-rooms}
 use borrow.Author.Needs.{needs}
 use Rattle.linebox.proofs.calls.take_line.Statement.{statement}
 use Rattle.linebox.proofs.calls.take_line.Tie as tie
@@ -77,14 +77,14 @@ same-length-3 c =
     let e = c .before in
     let p = e .before .before .before .before .before .before in
     let l = p .before .before .before .before .before .before .loop in
-    ap length (unfilled (l .host) _ (l .one) (rw (turned-true (p .put-line .result .fits) (e .if2 .taken)) at (p .put-line .ensures .one))) ∙ l .inv .one .same-length
+    ap length (unfilled (l .host) _ (l .one) (rw (not-true (p .put-line .result .fits) (e .if2 .taken)) at (p .put-line .ensures .one))) ∙ l .inv .one .same-length
 
 same-length-4 : tie.Need-same-length-4 Inv-loop μ-loop
 same-length-4 c =
     let e = c .before in
     let p = e .before .before .before .before .before .before in
     let l = p .before .before .before .before .before .before .loop in
-    ap length (unfilled (l .tu) _ (l .two) (rw (turned-true (p .put-line .result .fits) (e .if2 .taken)) at (p .put-line .ensures .two))) ∙ l .inv .two .same-length
+    ap length (unfilled (l .tu) _ (l .two) (rw (not-true (p .put-line .result .fits) (e .if2 .taken)) at (p .put-line .ensures .two))) ∙ l .inv .two .same-length
 
 returns-2 : tie.Need-returns-2 Inv-loop μ-loop
 returns-2 c =
@@ -95,7 +95,7 @@ returns-2 c =
     let l = m .loop in
     let a = m .before .before .before .before .args in
     rw (c .ended2 .ensures)
-    (stays Line (a .start) (now (a .codes)) (now (a .host)) (now (a .tu)) (l .state) (l .taken) (i .before .before .loop-test .taken) (l .host) (l .tu) _ _ (l .one) (l .two) _ (l .inv) (le-ltb _ _ (i .if1 .left)) (p .put-line .ensures) (turned-true _ (e .if2 .taken)))
+    (stays Line (a .start) (now (a .codes)) (now (a .host)) (now (a .tu)) (l .state) (l .taken) (i .before .before .loop-test .taken) (l .host) (l .tu) _ _ (l .one) (l .two) _ (l .inv) (le-ltb _ _ (i .if1 .left)) (p .put-line .ensures) (not-true _ (e .if2 .taken)))
 
 -- the counts stay within the buffers
 rooms : (d : tie.After-struct-known2 Inv-loop μ-loop)
@@ -109,7 +109,7 @@ rooms d =
     let m = i .before .before .before in
     let l = m .loop in
     let a = m .before .before .before .before .args in
-    turn-rooms Line (a .start) (now (a .codes)) (now (a .host)) (now (a .tu)) (l .state) (l .taken) (i .before .before .loop-test .taken) (l .host) (l .tu) _ _ (l .one) (l .two) _ (l .inv) (le-ltb _ _ (i .if1 .left)) (p .put-line .ensures) (turned-false _ (d .before .before .if2 .left))
+    turn-rooms Line (a .start) (now (a .codes)) (now (a .host)) (now (a .tu)) (l .state) (l .taken) (i .before .before .loop-test .taken) (l .host) (l .tu) _ _ (l .one) (l .two) _ (l .inv) (le-ltb _ _ (i .if1 .left)) (p .put-line .ensures) (not-false _ (d .before .before .if2 .left))
 
 add-one : tie.Need-add-one Inv-loop μ-loop
 add-one c =
@@ -137,7 +137,7 @@ loop-again c =
     let m = i .before .before .before in
     let l = m .loop in
     let a = m .before .before .before .before .args in
-    turn Line (a .start) (now (a .codes)) (now (a .host)) (now (a .tu)) (l .state) (l .taken) (i .before .before .loop-test .taken) (l .host) (l .tu) _ _ (l .one) (l .two) _ (l .inv) (le-ltb _ _ (i .if1 .left)) (p .put-line .ensures) (turned-false _ (d .before .before .if2 .left))
+    turn Line (a .start) (now (a .codes)) (now (a .host)) (now (a .tu)) (l .state) (l .taken) (i .before .before .loop-test .taken) (l .host) (l .tu) _ _ (l .one) (l .two) _ (l .inv) (le-ltb _ _ (i .if1 .left)) (p .put-line .ensures) (not-false _ (d .before .before .if2 .left))
 
 ended-requires-3 : tie.Need-ended-requires-3 Inv-loop μ-loop
 ended-requires-3 c κs = search needs

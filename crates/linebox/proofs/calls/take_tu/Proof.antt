@@ -6,14 +6,14 @@ use denote.Ref.{now}
 use mathlib.Core.Path.{_≡_, refl, ap, sym, _∙_}
 use mathlib.Core.List.{[]}
 use native.Mathlib.Omega.{arith}
-use borrow.Author.Tests.{lt-ltb, le-ltb}
+use borrow.Author.Tests.{lt-ltb, le-ltb, not-true, not-false}
 use borrow.Rule.Slice.PartMut.{putMid}
 use lib.ListN.{length}
 use Rattle.linebox.specs.Names.{Tu, All, NoCode}
 use Rattle.laws.proofs.Filled.{unfilled}
 use Rattle.step.proofs.Stays.{sound-parts}
 use Rattle.step.proofs.Bytes.{offers-first}
-use Rattle.linebox.proofs.Turns.{turned-true, turned-false, Reached, reached, ran, stops, all-taken, no-code, stays, turn, turn-rooms}
+use Rattle.linebox.proofs.Turns.{Reached, reached, ran, stops, all-taken, no-code, stays, turn, turn-rooms}
 use borrow.Author.Needs.{needs}
 use Rattle.linebox.proofs.calls.take_tu.Statement.{statement}
 use Rattle.linebox.proofs.calls.take_tu.Tie as tie
@@ -139,7 +139,7 @@ same-length-3 c =
     let q = e .before .before .before .before in
     let d = q .before .before .before .before .before .before .before .before .before .before in
     let l = d .before .before .before .before .loop in
-    ap length (unfilled _ _ (l .one + d .take-codes .result .count) (rw (turned-true (q .put-tu .result .fits) (e .if3 .taken)) at (q .put-tu .ensures .places))) ∙ run-of d .one .same-length
+    ap length (unfilled _ _ (l .one + d .take-codes .result .count) (rw (not-true (q .put-tu .result .fits) (e .if3 .taken)) at (q .put-tu .ensures .places))) ∙ run-of d .one .same-length
 
 returns-3 : tie.Need-returns-3 Inv-loop μ-loop
 returns-3 c =
@@ -150,7 +150,7 @@ returns-3 c =
     let l = d .before .before .before .before .loop in
     let a = d .before .before .before .before .before .before .before .args in
     let x = d .take-codes .result in
-    let k = stays Tu (a .start) (now (a .codes)) (now (a .line)) [] (x .state) (l .taken + x .taken) (i .if1 .left) _ [] _ [] (l .one + x .count) 0 _ (run-of d) (le-ltb _ _ (q .before .before .if2 .left)) (offers-first Tu _ (q .put-tu .result) _ [] _ refl (q .put-tu .ensures)) (turned-true _ (e .if3 .taken)) in
+    let k = stays Tu (a .start) (now (a .codes)) (now (a .line)) [] (x .state) (l .taken + x .taken) (i .if1 .left) _ [] _ [] (l .one + x .count) 0 _ (run-of d) (le-ltb _ _ (q .before .before .if2 .left)) (offers-first Tu _ (q .put-tu .result) _ [] _ refl (q .put-tu .ensures)) (not-true _ (e .if3 .taken)) in
     rw (c .ended3 .ensures) (record { gives = k .gives; one = k .one })
 
 -- after one code more
@@ -171,7 +171,7 @@ turn-of e =
     let l = d .before .before .before .before .loop in
     let a = d .before .before .before .before .before .before .before .args in
     let x = d .take-codes .result in
-    turn Tu (a .start) (now (a .codes)) (now (a .line)) [] (x .state) (l .taken + x .taken) (i .if1 .left) _ [] _ [] (l .one + x .count) 0 _ (run-of d) (le-ltb _ _ (q .before .before .if2 .left)) (offers-first Tu _ (q .put-tu .result) _ [] _ refl (q .put-tu .ensures)) (turned-false _ (e .if3 .left))
+    turn Tu (a .start) (now (a .codes)) (now (a .line)) [] (x .state) (l .taken + x .taken) (i .if1 .left) _ [] _ [] (l .one + x .count) 0 _ (run-of d) (le-ltb _ _ (q .before .before .if2 .left)) (offers-first Tu _ (q .put-tu .result) _ [] _ refl (q .put-tu .ensures)) (not-false _ (e .if3 .left))
 
 add-one-2 : tie.Need-add-one-2 Inv-loop μ-loop
 add-one-2 c =

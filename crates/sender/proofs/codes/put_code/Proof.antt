@@ -1,7 +1,8 @@
 -- `sender::codes::put_code` meets its contract: a code is led by a shift, followed by LTRS, or alone.
 -- Assumes nothing.
+use mathlib.Core.List.{[], _∷_}
 use denote.Ref.{now}
-use Rattle.laws.proofs.Filled.{filled-one, filled-two}
+use Rattle.laws.proofs.Filled.{filled-sets}
 use Rattle.sender.proofs.Shifted.{led, followed, alone}
 use borrow.Author.Needs.{needs}
 use Rattle.sender.proofs.codes.put_code.Statement.{statement}
@@ -37,7 +38,7 @@ returns c =
     let a = c .before .before .before .before .args in
     let e = rw (c .before .if1 .taken) at (c .before .before .is-led .ensures) in
     let q = led (a .o) (a .n) (a .want) (a .k) (a .c) e in
-    rw (q, c .shift-to .ensures) (filled-two (now (a .out)) _ (a .c) (rw q at (c .before .before .before .before .pre)))
+    rw (q, c .shift-to .ensures) (filled-sets (now (a .out)) (_ ∷ a .c ∷ []) (rw q at (c .before .before .before .before .pre)))
 
 slice-write-out-3 : tie.Need-slice-write-out-3
 slice-write-out-3 c =
@@ -74,7 +75,7 @@ returns-2 c =
     let e = rw (f .before .if1 .left) at (l .is-led .ensures) in
     let g = rw (c .before .if2 .taken) at (f .is-followed .ensures) in
     let q = followed (a .o) (a .n) (a .want) (a .k) (a .c) e g in
-    rw (q, c .shift-to2 .ensures) (filled-two (now (a .out)) (a .c) _ (rw q at (l .before .before .pre)))
+    rw (q, c .shift-to2 .ensures) (filled-sets (now (a .out)) (a .c ∷ _ ∷ []) (rw q at (l .before .before .pre)))
 
 same-length-3 : tie.Need-same-length-3
 same-length-3 c = search needs
@@ -87,7 +88,7 @@ returns-3 c =
     let e = rw (f .before .if1 .left) at (l .is-led .ensures) in
     let g = rw (c .if2 .left) at (f .is-followed .ensures) in
     let q = alone (a .o) (a .n) (a .want) (a .k) (a .c) e g in
-    rw q (filled-one (now (a .out)) (a .c) (rw q at (l .before .before .pre)))
+    rw q (filled-sets (now (a .out)) (a .c ∷ []) (rw q at (l .before .before .pre)))
 
 pub put-code-spec : {M : Type 1} → statement M
 put-code-spec =

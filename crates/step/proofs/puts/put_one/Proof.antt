@@ -1,11 +1,12 @@
 -- `step::puts::put_one` meets its contract: the test is whether there is a place.
 -- Assumes nothing.
 use mathlib.Core.Path.{refl}
+use mathlib.Core.List.{[], _∷_}
 use native.Mathlib.Omega.{arith}
 use denote.Ref.{now}
 use lib.ListN.{length}
 use borrow.Author.Tests.{le-leb, lt-leb}
-use Rattle.laws.proofs.Filled.{filled-one}
+use Rattle.laws.proofs.Filled.{filled-sets}
 use borrow.Author.Needs.{needs}
 use Rattle.step.proofs.puts.put_one.Statement.{statement}
 use Rattle.step.proofs.puts.put_one.Tie as tie
@@ -21,7 +22,7 @@ returns c = record {
   fits = rw (le-leb _ _ (c .if1 .taken));
   state = refl;
   count = refl;
-  places = filled-one (now (c .before .args .out)) (c .before .args .b) (c .if1 .taken) .places;
+  places = filled-sets (now (c .before .args .out)) (c .before .args .b ∷ []) (c .if1 .taken) .places;
 }
 
 returns-2 : tie.Need-returns-2

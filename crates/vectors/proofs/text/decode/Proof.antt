@@ -7,8 +7,8 @@ use native.Mathlib.Omega.{arith}
 use denote.Ref.{now}
 use lib.ListN.{length, drop}
 use borrow.Author.Tests.{ltb-true, ltb-false}
+use Rattle.laws.proofs.Tail.{to-end}
 use Rattle.vectors.specs.Text.{firstPiece}
-use Rattle.vectors.proofs.Parts.{to-end}
 use Rattle.vectors.proofs.Decoding.{Decodes, start, turn, text-ends, room-ends}
 use borrow.Author.Needs.{needs}
 use Rattle.vectors.proofs.text.decode.Statement.{statement}

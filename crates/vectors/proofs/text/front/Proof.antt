@@ -4,7 +4,7 @@ use mathlib.Core.Path.{sym}
 use native.Mathlib.Omega.{arith}
 use denote.Ref.{now}
 use lib.Seq.{take-all}
-use Rattle.vectors.proofs.Parts.{from-start}
+use Rattle.laws.proofs.Tail.{from-start}
 use borrow.Author.Needs.{needs}
 use Rattle.vectors.proofs.text.front.Statement.{statement}
 use Rattle.vectors.proofs.text.front.Tie as tie

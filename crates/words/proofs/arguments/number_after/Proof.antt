@@ -4,30 +4,25 @@ use Prim.Native.Nat.{ℕ, _-_, _<_}
 use mathlib.Core.Path.{_≡_, sym, _∙_}
 use mathlib.Core.Bool.{Bool, true, false}
 use mathlib.Core.List.{List}
-use native.Mathlib.Nat.{le-of-eq}
 use native.Mathlib.Omega.{arith}
-use lib.ListN.{length, take, drop, length-drop}
-use lib.Seq.{take-all}
+use lib.ListN.{length, take, drop}
 use denote.Ref.{now}
 use borrow.Author.Tests.{lt-ltb, le-ltb}
 use Rattle.laws.specs.Same.{same}
+use Rattle.laws.proofs.Tail.{from-start, to-end}
 use Rattle.words.specs.Arguments.{number, numberAfter}
 use borrow.Author.Needs.{needs}
 use Rattle.words.proofs.arguments.number_after.Statement.{statement}
 use Rattle.words.proofs.arguments.number_after.Tie as tie
 
-front : (s : List ℕ) (k : ℕ) → take (k - 0) (drop 0 s) ≡ take k s
-front s k = let z : k - 0 ≡ k = omega arith in rw z
-
 found : (s name : List ℕ) (k r : ℕ) (b : Bool) → k < length s → b ≡ same (take (k - 0) (drop 0 s)) name → b ≡ true → r ≡ number 0 (take (length s - k) (drop k s)) → r ≡ numberAfter s k name
 found s name k r b h e t n =
-    let all : take (length s - k) (drop k s) ≡ drop k s = take-all _ _ (le-of-eq (length-drop k s)) in
-    let q : same (take k s) name ≡ true = sym (rw (front s k) at e) ∙ t in
-    (rw all at n) ∙ rw (lt-ltb k (length s) h, q)
+    let q : same (take k s) name ≡ true = sym (rw (from-start s k) at e) ∙ t in
+    (rw (to-end s k) at n) ∙ rw (lt-ltb k (length s) h, q)
 
 other : (s name : List ℕ) (k : ℕ) (b : Bool) → k < length s → b ≡ same (take (k - 0) (drop 0 s)) name → b ≡ false → 256 ≡ numberAfter s k name
 other s name k b h e t =
-    let q : same (take k s) name ≡ false = sym (rw (front s k) at e) ∙ t in
+    let q : same (take k s) name ≡ false = sym (rw (from-start s k) at e) ∙ t in
     rw (lt-ltb k (length s) h, q)
 
 sub-same : tie.Need-sub-same
