@@ -2,7 +2,7 @@
 -- Assumes nothing.
 use Prim.Native.Nat.{ℕ, suc, _+_, _-_, _≤_, _<_}
 use mathlib.Core.Path.{_≡_, refl, sym, ap, _∙_}
-use mathlib.Core.Bool.{Bool, true, false, cond, _&&_, false≢true, true≢false}
+use mathlib.Core.Bool.{Bool, true, false, cond, false≢true, true≢false}
 use lib.Dec.{leb}
 use mathlib.Core.List.{List, [], _∷_, _++_, append-nil, append-assoc}
 use native.Mathlib.Omega.{arith}
@@ -14,9 +14,9 @@ use lib.Seq.{drop-cons}
 use Rattle.laws.specs.Written.{Filled}
 use Rattle.laws.proofs.Either.{either-way}
 use Rattle.laws.proofs.Filled.{filled-none, filled-on}
-use Rattle.sender.specs.Names.{Conversion, Nothing, Free, Cased, Settings, Sender, Asks, Item}
+use Rattle.sender.specs.Names.{Conversion, Nothing, Free, Cased, Settings, Sender, Asks, Until, Item}
 use Rattle.sender.specs.Item.{items, afterItems, wantedOf}
-use Rattle.sender.specs.Sends.{converted, isNone, wantedAs, asksNext, isSpecial, Run, stopped, onward, sends, Puts, Sends}
+use Rattle.sender.specs.Sends.{converted, isNone, wantedAs, asksNext, stopsAt, Run, stopped, onward, sends, Puts, Sends}
 
 -- where there is a code, it is the one item
 pub one-wanted : (x : Conversion) → isNone x ≡ false → wantedOf x ≡ wantedAs x ∷ []
@@ -41,22 +41,22 @@ moved n p cs d =
     rw (u, append-assoc p cs (d .codes))
 
 -- where the loop is: n bytes are sent as p, and the rest is still to come
-pub record Sending (o : Settings) (start : Sender) (first : Asks) (plain : Bool) (bytes old : List ℕ) (s : Sender) (asks : Asks) (n : ℕ) (now : List ℕ) (k : ℕ) : Type 0 where
+pub record Sending (o : Settings) (start : Sender) (first : Asks) (until : Until) (bytes old : List ℕ) (s : Sender) (asks : Asks) (n : ℕ) (now : List ℕ) (k : ℕ) : Type 0 where
   pub p : List ℕ
   pub within : n ≤ length bytes
   pub places : Filled old now p k
-  pub rest : sends o start first plain bytes (length old) ≡ before n p (sends o s asks plain (drop n bytes) (length old - k))
+  pub rest : sends o start first until bytes (length old) ≡ before n p (sends o s asks until (drop n bytes) (length old - k))
 
-module _ (o : Settings) (start : Sender) (first : Asks) (plain : Bool) (bytes old : List ℕ) where
-  pub sending : Sending o start first plain bytes old start first 0 old 0
+module _ (o : Settings) (start : Sender) (first : Asks) (until : Until) (bytes old : List ℕ) where
+  pub sending : Sending o start first until bytes old start first 0 old 0
   sending = record { p = []; within = omega arith; places = filled-none old; rest = rw (sub-zero (length old), zero-add) }
 
-  module _ (s : Sender) (asks : Asks) (n : ℕ) (now : List ℕ) (k : ℕ) (e : Sending o start first plain bytes old s asks n now k) where
-    stops : sends o s asks plain (drop n bytes) (length old - k) ≡ stopped s asks
-        → Sends (sends o start first plain bytes (length old)) old now (record { sender = s; asks = asks; taken = n; count = k })
+  module _ (s : Sender) (asks : Asks) (n : ℕ) (now : List ℕ) (k : ℕ) (e : Sending o start first until bytes old s asks n now k) where
+    stops : sends o s asks until (drop n bytes) (length old - k) ≡ stopped s asks
+        → Sends (sends o start first until bytes (length old)) old now (record { sender = s; asks = asks; taken = n; count = k })
     stops h = rw (e .rest, h) (record { gives = rw (add-zero, append-nil, e .places .count); places = rw append-nil (e .places) })
 
-    pub all-sent : length bytes ≤ n → Sends (sends o start first plain bytes (length old)) old now (record { sender = s; asks = asks; taken = n; count = k })
+    pub all-sent : length bytes ≤ n → Sends (sends o start first until bytes (length old)) old now (record { sender = s; asks = asks; taken = n; count = k })
     all-sent h = stops (rw (drop-of-length-le bytes h))
 
     module _ (lt : n < length bytes) where
@@ -64,23 +64,23 @@ module _ (o : Settings) (start : Sender) (first : Asks) (plain : Bool) (bytes ol
       abbrev cs : List ℕ
       cs = items o s (wantedOf (converted asks (getD bytes n 0)))
 
-      pub no-room : leb (length cs) (length now - k) ≡ false → Sends (sends o start first plain bytes (length old)) old now (record { sender = s; asks = asks; taken = n; count = k })
-      no-room h = stops (rw (drop-cons bytes n 0 lt, ← e .places .same-length, h) (either-way (plain && isSpecial asks (getD bytes n 0)) (stopped s asks)))
+      pub no-room : leb (length cs) (length now - k) ≡ false → Sends (sends o start first until bytes (length old)) old now (record { sender = s; asks = asks; taken = n; count = k })
+      no-room h = stops (rw (drop-cons bytes n 0 lt, ← e .places .same-length, h) (either-way (stopsAt until (getD bytes n 0)) (stopped s asks)))
 
-      pub at-special : (plain && isSpecial asks (getD bytes n 0)) ≡ true → Sends (sends o start first plain bytes (length old)) old now (record { sender = s; asks = asks; taken = n; count = k })
-      at-special z = stops (rw (drop-cons bytes n 0 lt, z))
+      pub at-stop : stopsAt until (getD bytes n 0) ≡ true → Sends (sends o start first until bytes (length old)) old now (record { sender = s; asks = asks; taken = n; count = k })
+      at-stop z = stops (rw (drop-cons bytes n 0 lt, z))
 
       -- one byte more
-      pub sends-on : leb (length cs) (length now - k) ≡ true → (plain && isSpecial asks (getD bytes n 0)) ≡ false → (ys : List ℕ) (x : Item)
+      pub sends-on : leb (length cs) (length now - k) ≡ true → stopsAt until (getD bytes n 0) ≡ false → (ys : List ℕ) (x : Item)
           → Puts o s (wantedOf (converted asks (getD bytes n 0))) (midOf k (length now - k) now) ys x
-          → Sending o start first plain bytes old (x .sender) (asksNext o asks (getD bytes n 0)) (n + 1) (putMid k (length now - k) now ys) (k + x .count)
+          → Sending o start first until bytes old (x .sender) (asksNext o asks (getD bytes n 0)) (n + 1) (putMid k (length now - k) now ys) (k + x .count)
       sends-on h z ys x f =
           let b = getD bytes n 0 in
           let ws = wantedOf (converted asks b) in
           let a = length old - k in
           let u : leb (length cs) a ≡ true = rw (e .places .same-length) at h in
           let v : a - length cs ≡ length old - (k + x .count) = omega (arith, f .places .count) in
-          let turn : sends o s asks plain (drop n bytes) a ≡ onward cs (sends o (afterItems o s ws) (asksNext o asks b) plain (drop (n + 1) bytes) (a - length cs)) = rw (drop-cons bytes n 0 lt, z, u, add-one) in
+          let turn : sends o s asks until (drop n bytes) a ≡ onward cs (sends o (afterItems o s ws) (asksNext o asks b) until (drop (n + 1) bytes) (a - length cs)) = rw (drop-cons bytes n 0 lt, z, u, add-one) in
           record {
             p = e .p ++ cs;
             within = omega arith;
@@ -89,25 +89,25 @@ module _ (o : Settings) (start : Sender) (first : Asks) (plain : Bool) (bytes ol
           }
 
 -- no more bytes than there are
-pub run-within : (o : Settings) (s : Sender) (asks : Asks) (plain : Bool) (bs : List ℕ) (room : ℕ) → sends o s asks plain bs room .taken ≤ length bs
-run-within o s asks plain [] room = omega arith
-run-within o s asks plain (b ∷ bs) room = go (plain && isSpecial asks b) (leb (length (items o s (wantedOf (converted asks b)))) room) (run-within o _ _ plain bs _)
+pub run-within : (o : Settings) (s : Sender) (asks : Asks) (until : Until) (bs : List ℕ) (room : ℕ) → sends o s asks until bs room .taken ≤ length bs
+run-within o s asks until [] room = omega arith
+run-within o s asks until (b ∷ bs) room = go (stopsAt until b) (leb (length (items o s (wantedOf (converted asks b)))) room) (run-within o _ _ until bs _)
   where
-    go : (special fits : Bool)
-        → (let ws = wantedOf (converted asks b) in sends o (afterItems o s ws) (asksNext o asks b) plain bs (room - length (items o s ws)) .taken ≤ length bs)
-        → (let ws = wantedOf (converted asks b) in cond special (stopped s asks) (cond fits (onward (items o s ws) (sends o (afterItems o s ws) (asksNext o asks b) plain bs (room - length (items o s ws)))) (stopped s asks)) .taken) ≤ length (b ∷ bs)
+    go : (halts fits : Bool)
+        → (let ws = wantedOf (converted asks b) in sends o (afterItems o s ws) (asksNext o asks b) until bs (room - length (items o s ws)) .taken ≤ length bs)
+        → (let ws = wantedOf (converted asks b) in cond halts (stopped s asks) (cond fits (onward (items o s ws) (sends o (afterItems o s ws) (asksNext o asks b) until bs (room - length (items o s ws)))) (stopped s asks)) .taken) ≤ length (b ∷ bs)
     go true fits h = omega arith
     go false true h = omega (arith, h)
     go false false h = omega arith
 
 -- no bytes, no codes
-pub run-none : (o : Settings) (s : Sender) (asks : Asks) (plain : Bool) (bs : List ℕ) (room : ℕ) → sends o s asks plain bs room .taken ≡ 0 → sends o s asks plain bs room .codes ≡ []
-run-none o s asks plain [] room e = refl
-run-none o s asks plain (b ∷ bs) room e = go (plain && isSpecial asks b) (leb (length (items o s (wantedOf (converted asks b)))) room) e
+pub run-none : (o : Settings) (s : Sender) (asks : Asks) (until : Until) (bs : List ℕ) (room : ℕ) → sends o s asks until bs room .taken ≡ 0 → sends o s asks until bs room .codes ≡ []
+run-none o s asks until [] room e = refl
+run-none o s asks until (b ∷ bs) room e = go (stopsAt until b) (leb (length (items o s (wantedOf (converted asks b)))) room) e
   where
-    go : (special fits : Bool)
+    go : (halts fits : Bool)
         → let ws = wantedOf (converted asks b) in
-        let d = cond special (stopped s asks) (cond fits (onward (items o s ws) (sends o (afterItems o s ws) (asksNext o asks b) plain bs (room - length (items o s ws)))) (stopped s asks)) in d .taken ≡ 0 → d .codes ≡ []
+        let d = cond halts (stopped s asks) (cond fits (onward (items o s ws) (sends o (afterItems o s ws) (asksNext o asks b) until bs (room - length (items o s ws)))) (stopped s asks)) in d .taken ≡ 0 → d .codes ≡ []
     go true fits e = refl
     go false true e = absurd (omega (arith, e))
     go false false e = refl

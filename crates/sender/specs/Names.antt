@@ -19,6 +19,8 @@ pub use Rattle.sender.specs.declared.Wanted.{Wanted}
 pub use Rattle.sender.specs.declared.Sender.{Sender}
 pub use Rattle.sender.specs.declared.Asks.{Asks}
 pub use Rattle.sender.specs.declared.Asks.the-variants.{Text, Codes}
+pub use Rattle.sender.specs.declared.Until.{Until}
+pub use Rattle.sender.specs.declared.Until.the-variants.{Never, Byte, Above}
 pub use Rattle.sender.specs.declared.Noted.{Noted}
 pub use Rattle.sender.specs.declared.Item.{Item}
 pub use Rattle.sender.specs.declared.Sent.{Sent}

@@ -1,14 +1,14 @@
 -- Bytes that go out as codes, written straight into a buffer.
 use Prim.Native.Nat.{ℕ, suc, _-_}
 use mathlib.Core.Path.{_≡_}
-use mathlib.Core.Bool.{Bool, true, false, cond, _&&_}
+use mathlib.Core.Bool.{Bool, true, false, cond}
 use mathlib.Core.List.{List, [], _∷_, _++_}
 use lib.Dec.{eqb, leb, ltb}
 use lib.ListN.{length}
 use Rattle.laws.specs.Written.{fronted, Filled}
 use Rattle.code.specs.Kinds.{kindOf}
 use Rattle.code.specs.Convert.{conversion}
-use Rattle.sender.specs.Names.{Letters, Conversion, Nothing, Free, Cased, Settings, Record, Wanted, Sender, Asks, Text, Codes, Noted, Item, Sent}
+use Rattle.sender.specs.Names.{Letters, Conversion, Nothing, Free, Cased, Settings, Record, Wanted, Sender, Asks, Text, Codes, Until, Never, Byte, Above, Noted, Item, Sent}
 use Rattle.sender.specs.Record.{notes}
 use Rattle.sender.specs.Item.{items, afterItems, wanted, wantedOf, incoming}
 
@@ -52,10 +52,11 @@ abbrev pub asksNext : Settings → Asks → ℕ → Asks
 asksNext o Text b = Text
 asksNext o (Codes case) c = Codes (incoming o case (kindOf c))
 
--- a `/` may begin a command, and over 31 there is no code
-abbrev pub isSpecial : Asks → ℕ → Bool
-isSpecial Text b = eqb b 47
-isSpecial (Codes case) c = ltb 31 c
+-- whether a run stops before this byte
+abbrev pub stopsAt : Until → ℕ → Bool
+stopsAt Never b = false
+stopsAt (Byte x) b = eqb b x
+stopsAt (Above x) b = ltb x b
 
 -- bytes that went out: the sender after them and how the next ones ask, how many they are, and their codes
 pub record Run : Type 0 where
@@ -71,13 +72,13 @@ stopped s asks = record { sender = s; asks = asks; taken = 0; codes = [] }
 abbrev pub onward : List ℕ → Run → Run
 onward cs d = record { sender = d .sender; asks = d .asks; taken = suc (d .taken); codes = cs ++ d .codes }
 
--- the bytes one after the other, as long as all codes of the next one fit, and up to a special one where plain ones are asked for
-abbrev pub sends : Settings → Sender → Asks → Bool → List ℕ → ℕ → Run
-sends o s asks plain [] room = stopped s asks
-sends o s asks plain (b ∷ bs) room =
+-- the bytes one after the other, as long as all codes of the next one fit, and up to one that stops them
+abbrev pub sends : Settings → Sender → Asks → Until → List ℕ → ℕ → Run
+sends o s asks until [] room = stopped s asks
+sends o s asks until (b ∷ bs) room =
     let ws = wantedOf (converted asks b) in
-    cond (plain && isSpecial asks b) (stopped s asks)
-    (cond (leb (length (items o s ws)) room) (onward (items o s ws) (sends o (afterItems o s ws) (asksNext o asks b) plain bs (room - length (items o s ws)))) (stopped s asks))
+    cond (stopsAt until b) (stopped s asks)
+    (cond (leb (length (items o s ws)) room) (onward (items o s ws) (sends o (afterItems o s ws) (asksNext o asks b) until bs (room - length (items o s ws)))) (stopped s asks))
 
 -- what the caller is told of it, and the buffer
 pub record Sends (d : Run) (old now : List ℕ) (r : Sent) : Type 0 where

@@ -49,6 +49,13 @@ pub enum Asks {
     Codes(Case),
 }
 
+// What stops a run of bytes, beside want of room: nothing, a byte, or any byte above one.
+pub enum Until {
+    Never,
+    Byte(u8),
+    Above(u8),
+}
+
 // Codes that went out: the record after them, and how many they are.
 pub struct Noted {
     pub held: Record,

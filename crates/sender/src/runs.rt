@@ -1,16 +1,16 @@
 // Bytes sent one after the other, as long as the buffer has room for all codes of the next.
 ghost use mathlib.Core.Path.{_≡_};
-ghost use mathlib.Core.Bool.{_&&_};
 ghost use Prim.Native.Nat.{_≤_, _<_};
 ghost use lib.Dec.{leb};
 ghost use lib.ListN.{length};
 ghost use Rattle.convert.specs.Entry.{Tabled};
 ghost use Rattle.sender.specs.Item.{items, wantedOf, unshiftedBy, incoming};
-ghost use Rattle.sender.specs.Sends.{counted, converted, isNone, wantedAs, asksNext, isSpecial, Puts, sends, Sends};
+ghost use Rattle.sender.specs.Sends.{counted, converted, isNone, wantedAs, asksNext, stopsAt, Puts, sends, Sends};
 use crate::Asks;
 use crate::Item;
 use crate::Sender;
 use crate::Sent;
+use crate::Until;
 use crate::Wanted;
 use crate::items::count_item;
 use crate::items::put_item;
@@ -88,21 +88,15 @@ fn wanted_as(x: Conversion) -> Wanted
     }
 }
 
-// Whether a byte is special: a `/` in text, or no code.
-fn is_special(asks: Asks, b: u8) -> bool
-    ensures { λ r. ⌜ r ≡ isSpecial asks b ⌝ }
+// Whether a run of bytes stops before this one.
+fn stops(until: Until, b: u8) -> bool
+    ensures { λ r. ⌜ r ≡ stopsAt until b ⌝ }
 {
-    match asks {
-        Asks::Text => b == b'/',
-        Asks::Codes(_) => 31 < b,
+    match until {
+        Until::Never => false,
+        Until::Byte(x) => b == x,
+        Until::Above(x) => x < b,
     }
-}
-
-// Whether a run of bytes stops here, where plain ones are asked for.
-fn stops(plain: bool, asks: Asks, b: u8) -> bool
-    ensures { λ r. ⌜ r ≡ (plain && isSpecial asks b) ⌝ }
-{
-    if plain { is_special(asks, b) } else { false }
 }
 
 // The item of a byte, if it has a code, counted.
@@ -170,17 +164,17 @@ fn sent(sender: Sender, asks: Asks, taken: usize, count: usize) -> Sent
     }
 }
 
-// The bytes one after the other, at the front of the buffer; up to a special one where plain ones are asked for.
+// The bytes one after the other, at the front of the buffer, up to one that stops them.
 pub fn send(
     o: Settings,
     start: Sender,
     first: Asks,
-    plain: bool,
+    until: Until,
     bytes: &[u8],
     out: &mut [u8],
 ) -> Sent
     ensures { λ r. ⌜
-        Sends (sends o start first plain (now (bytes .entry)) (length (now (out .entry)))) (now (out .entry)) (now (out .exit)) r
+        Sends (sends o start first until (now (bytes .entry)) (length (now (out .entry)))) (now (out .entry)) (now (out .exit)) r
         ⌝ }
 {
     let table = convert::table();
@@ -193,7 +187,7 @@ pub fn send(
         if !has_room(o, sender, asks, b, out.len() - count) {
             return sent(sender, asks, taken, count);
         }
-        if stops(plain, asks, b) {
+        if stops(until, b) {
             return sent(sender, asks, taken, count);
         }
         let x = convert_as(asks, &table, b);

@@ -7,16 +7,16 @@ use denote.Ref.{now}
 use lib.ListN.{length, getD}
 use borrow.Author.Tests.{leb-true, not-true, not-false}
 use Rattle.laws.proofs.Filled.{free-length}
-use Rattle.sender.proofs.Sending.{Sending, sending, all-sent, no-room, at-special, sends-on}
+use Rattle.sender.proofs.Sending.{Sending, sending, all-sent, no-room, at-stop, sends-on}
 use borrow.Author.Needs.{needs}
 use Rattle.sender.proofs.runs.send.Statement.{statement}
 use Rattle.sender.proofs.runs.send.Tie as tie
 
 abbrev Inv-loop : tie.InvT-loop
-Inv-loop o plain bytes out₀ table sender₀ asks₀ taken₀ count₀ out sender asks taken count = Sending o sender₀ asks₀ plain bytes out₀ sender asks taken out count
+Inv-loop o until bytes out₀ table sender₀ asks₀ taken₀ count₀ out sender asks taken count = Sending o sender₀ asks₀ until bytes out₀ sender asks taken out count
 
 abbrev μ-loop : tie.MeasureT-loop
-μ-loop o plain bytes out₀ table sender₀ asks₀ taken₀ count₀ out sender asks taken count = length bytes - taken
+μ-loop o until bytes out₀ table sender₀ asks₀ taken₀ count₀ out sender asks taken count = length bytes - taken
 
 table-requires : tie.Need-table-requires Inv-loop μ-loop
 table-requires c κs = search needs
@@ -24,7 +24,7 @@ table-requires c κs = search needs
 loop-holds : tie.Need-loop-holds Inv-loop μ-loop
 loop-holds c =
     let a = c .before .before .before .args in
-    sending (a .o) (a .start) (a .first) (a .plain) (now (a .bytes)) (now (a .out))
+    sending (a .o) (a .start) (a .first) (a .until) (now (a .bytes)) (now (a .out))
 
 shared-slice-read-b : tie.Need-shared-slice-read-b Inv-loop μ-loop
 shared-slice-read-b c = search needs
@@ -50,7 +50,7 @@ returns c =
     let l = m .loop in
     let a = m .before .before .before .before .args in
     rw (c .sent .ensures)
-    (no-room (a .o) (a .start) (a .first) (a .plain) (now (a .bytes)) (now (a .out)) (l .sender) (l .asks) (l .taken) (l .out) (l .count) (l .inv) (t .loop-test .taken) (rw (h .has-room .ensures) at (not-true (h .has-room .result) (g .if1 .taken))))
+    (no-room (a .o) (a .start) (a .first) (a .until) (now (a .bytes)) (now (a .out)) (l .sender) (l .asks) (l .taken) (l .out) (l .count) (l .inv) (t .loop-test .taken) (rw (h .has-room .ensures) at (not-true (h .has-room .result) (g .if1 .taken))))
 
 stops-requires : tie.Need-stops-requires Inv-loop μ-loop
 stops-requires c κs = search needs
@@ -69,7 +69,7 @@ returns-2 c =
     let l = m .loop in
     let a = m .before .before .before .before .args in
     rw (c .sent2 .ensures)
-    (at-special (a .o) (a .start) (a .first) (a .plain) (now (a .bytes)) (now (a .out)) (l .sender) (l .asks) (l .taken) (l .out) (l .count) (l .inv) (t .loop-test .taken) (rw (f .before .stops .ensures) at (f .if2 .taken)))
+    (at-stop (a .o) (a .start) (a .first) (a .until) (now (a .bytes)) (now (a .out)) (l .sender) (l .asks) (l .taken) (l .out) (l .count) (l .inv) (t .loop-test .taken) (rw (f .before .stops .ensures) at (f .if2 .taken)))
 
 slice-aggregate-convert-as : tie.Need-slice-aggregate-convert-as Inv-loop μ-loop
 slice-aggregate-convert-as c = search needs
@@ -124,7 +124,7 @@ loop-again c =
     let l = m .loop in
     let a = m .before .before .before .before .args in
     rw (c .before .before .next-asks .ensures)
-    (sends-on (a .o) (a .start) (a .first) (a .plain) (now (a .bytes)) (now (a .out)) (l .sender) (l .asks) (l .taken) (l .out) (l .count) (l .inv) (t .loop-test .taken) (rw (h .has-room .ensures) at (not-false (h .has-room .result) (g .if1 .left))) (rw (f .before .stops .ensures) at (f .if2 .left)) _ (p .put-asked .result) (rw (v .convert-as .ensures) at (p .put-asked .ensures)))
+    (sends-on (a .o) (a .start) (a .first) (a .until) (now (a .bytes)) (now (a .out)) (l .sender) (l .asks) (l .taken) (l .out) (l .count) (l .inv) (t .loop-test .taken) (rw (h .has-room .ensures) at (not-false (h .has-room .result) (g .if1 .left))) (rw (f .before .stops .ensures) at (f .if2 .left)) _ (p .put-asked .result) (rw (v .convert-as .ensures) at (p .put-asked .ensures)))
 
 sent-requires-3 : tie.Need-sent-requires-3 Inv-loop μ-loop
 sent-requires-3 c κs = search needs
@@ -137,7 +137,7 @@ returns-3 c =
     let m = c .before .before in
     let l = m .loop in
     let a = m .before .before .before .before .args in
-    rw (c .sent3 .ensures) (all-sent (a .o) (a .start) (a .first) (a .plain) (now (a .bytes)) (now (a .out)) (l .sender) (l .asks) (l .taken) (l .out) (l .count) (l .inv) (c .before .loop-test .left))
+    rw (c .sent3 .ensures) (all-sent (a .o) (a .start) (a .first) (a .until) (now (a .bytes)) (now (a .out)) (l .sender) (l .asks) (l .taken) (l .out) (l .count) (l .inv) (c .before .loop-test .left))
 
 pub send-spec : {M : Type 1} → statement M
 send-spec =
