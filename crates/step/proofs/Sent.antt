@@ -14,7 +14,7 @@ use Rattle.sender.specs.Item.{items, afterItems, wanted, wantedOf}
 use Rattle.sender.specs.Sends.{counted, Run, sends as codesSent, Sends}
 use Rattle.sender.proofs.Few.{wanted-few}
 use Rattle.sender.proofs.Sends.{items-append, after-append}
-use Rattle.step.specs.Names.{Case, Settings, Wanted, Sender, Text, Codes, State}
+use Rattle.step.specs.Names.{Case, Settings, Wanted, Sender, Text, Codes, Never, State}
 use Rattle.step.specs.State.{withSender}
 use Rattle.step.specs.Step.{sends, asked, released}
 use Rattle.step.specs.Byte.{Puts, noRoom}
@@ -22,7 +22,7 @@ use Rattle.step.specs.Byte.{Puts, noRoom}
 module _ (o : Settings) where
   -- host text
   pub text-sent : (s : Sender) (bs : List ℕ) (room : ℕ) → length (items o s (asked bs)) ≤ room
-      → codesSent o s Text false bs room .codes ≡ items o s (asked bs)
+      → codesSent o s Text Never bs room .codes ≡ items o s (asked bs)
   text-sent s [] room h = refl
   text-sent s (b ∷ bs) room h =
       let ws = wantedOf (conversion b) in
@@ -35,7 +35,7 @@ module _ (o : Settings) where
 
   -- one TU code
   pub code-sent : (s : Sender) (case : Case) (c room : ℕ) → length (items o s (wanted case c ∷ [])) ≤ room
-      → codesSent o s (Codes case) false (c ∷ []) room .codes ≡ items o s (wanted case c ∷ [])
+      → codesSent o s (Codes case) Never (c ∷ []) room .codes ≡ items o s (wanted case c ∷ [])
   code-sent s case c room h = rw (le-leb (length (items o s (wanted case c ∷ []))) room h, append-nil (items o s (wanted case c ∷ [])))
 
   -- two bytes counted one after the other

@@ -1,9 +1,8 @@
 // A byte's codes to the line, into the free part of the buffer itself: counted first, and sent where all of them fit.
 ghost use mathlib.Core.Path.{_≡_};
-ghost use mathlib.Core.Bool.{false};
 ghost use lib.ListN.{length};
 ghost use Rattle.sender.specs.Sends.{counted, sends as codesSent, Sends};
-ghost use Rattle.step.specs.Names.{Host as Names·Host, Text as Names·Text};
+ghost use Rattle.step.specs.Names.{Host as Names·Host, Text as Names·Text, Never as Names·Never};
 ghost use Rattle.step.specs.Route.{route};
 ghost use Rattle.step.specs.Step.{sends, asked, text, released, carried, caseOf, tuStep};
 ghost use Rattle.step.specs.Byte.{Puts};
@@ -22,6 +21,7 @@ use sender::Asks;
 use sender::Item;
 use sender::Sender;
 use sender::Sent;
+use sender::Until;
 use settings::Settings;
 
 // How many codes text is, and the sender after it: the byte, and before it the `/` where that was held.
@@ -44,14 +44,14 @@ fn count_text(o: Settings, s: Sender, slash: bool, b: u8) -> Item
 // Text sent: the byte, and before it the `/` where that was held.
 fn send_text(o: Settings, s: Sender, slash: bool, b: u8, out: &mut [u8]) -> Sent
     ensures { λ r. ⌜
-        Sends (codesSent o s Names·Text false (released slash b) (length (now (out .entry)))) (now (out .entry)) (now (out .exit)) r
+        Sends (codesSent o s Names·Text Names·Never (released slash b) (length (now (out .entry)))) (now (out .entry)) (now (out .exit)) r
         ⌝ }
 {
     let text = [b'/', b];
     if slash {
-        sender::runs::send(o, s, Asks::Text, false, &text, out)
+        sender::runs::send(o, s, Asks::Text, Until::Never, &text, out)
     } else {
-        sender::runs::send(o, s, Asks::Text, false, &text[1..], out)
+        sender::runs::send(o, s, Asks::Text, Until::Never, &text[1..], out)
     }
 }
 
@@ -117,7 +117,7 @@ fn put_code(s: State, c: u8, out: &mut [u8]) -> Took
         return no_room(next);
     }
     let one = [c];
-    let y = sender::runs::send(settings, sender, Asks::Codes(case), false, &one, out);
+    let y = sender::runs::send(settings, sender, Asks::Codes(case), Until::Never, &one, out);
     Took {
         fits: true,
         state: next,
