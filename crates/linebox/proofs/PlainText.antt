@@ -16,9 +16,9 @@ use Rattle.command.specs.Read.{read, readAt, afresh, at, idle}
 use Rattle.code.specs.Kinds.{kindOf}
 use Rattle.code.specs.Convert.{conversion}
 use Rattle.sender.specs.Item.{items, afterItems, wanted, wantedOf, incoming}
-use Rattle.sender.specs.Sends.{converted, asksNext, isSpecial, Run, sends, Sends}
+use Rattle.sender.specs.Sends.{converted, asksNext, stopsAt, Run, sends, Sends}
 use Rattle.sender.specs.declared.Sent.{Sent}
-use Rattle.linebox.specs.Names.{Case, Route, Dropped, ToPrinter, ToHost, ToTu, Settings, Sender, Asks, Text, Codes, One, State, Stream, Host, Tu, Ran}
+use Rattle.linebox.specs.Names.{Case, Route, Dropped, ToPrinter, ToHost, ToTu, Settings, Sender, Asks, Text, Codes, Byte, Above, One, State, Stream, Host, Tu, Ran}
 use Rattle.step.specs.State.{sound, withReader, withSender, withIncoming}
 use Rattle.step.specs.Step.{Step, sends as sent, asked, text, released, hosted, hostStep, tued, tuStep, carried, step}
 use Rattle.linebox.specs.Call.{firstOf, secondOf, refuses, fits, Done, before, taking}
@@ -82,7 +82,7 @@ texting-sound s x ok =
 text-step : (s : State) (b : ℕ) → isPrinter (route (s .connection) Host) ≡ true → isText (s .reader .stage) ≡ true → eqb b 47 ≡ false → hostStep s b ≡ sent (withReader s idle) (wantedOf (conversion b))
 text-step s b m h e = rw (reads-text (s .reader .stage) (s .reader .values) b h e, open-text (route (s .connection) Host) (b ∷ []) m, append-nil)
 
-plain-text : (s : State) → isPrinter (route (s .connection) Host) ≡ true → (x : Sender) (a : Asks) (b : ℕ) → asText a ≡ true → isSpecial a b ≡ false → Plain Host (s .settings) (λ y z. texting s y) x a b
+plain-text : (s : State) → isPrinter (route (s .connection) Host) ≡ true → (x : Sender) (a : Asks) (b : ℕ) → asText a ≡ true → stopsAt (Byte 47) b ≡ false → Plain Host (s .settings) (λ y z. texting s y) x a b
 plain-text s m x Text b h e =
     let u = text-step (texting s x) b m refl e in
     record { is-taken = refl; state = rw u; first = rw u; second = rw u }
@@ -90,11 +90,11 @@ plain-text s m x (Codes case) b h e = absurd (false≢true h)
 
 -- the first byte of a run is read as if no field had ever been
 first-same : (s : State) (xs : List ℕ) (room more : ℕ) → isPrinter (route (s .connection) Host) ≡ true → isText (s .reader .stage) ≡ true
-    → (sends (s .settings) (s .sender) Text true xs room .taken ≡ 0 → ⊥) → taking Host s xs room more ≡ taking Host (texting s (s .sender)) xs room more
+    → (sends (s .settings) (s .sender) Text (Byte 47) xs room .taken ≡ 0 → ⊥) → taking Host s xs room more ≡ taking Host (texting s (s .sender)) xs room more
 first-same s [] room more m h n = absurd (n refl)
 first-same s (b ∷ xs) room more m h n = go (eqb b 47) refl (leb (length (items (s .settings) (s .sender) (wantedOf (conversion b)))) room) refl n
   where
-    go : (z : Bool) → eqb b 47 ≡ z → (fit : Bool) → leb (length (items (s .settings) (s .sender) (wantedOf (conversion b)))) room ≡ fit → (sends (s .settings) (s .sender) Text true (b ∷ xs) room .taken ≡ 0 → ⊥)
+    go : (z : Bool) → eqb b 47 ≡ z → (fit : Bool) → leb (length (items (s .settings) (s .sender) (wantedOf (conversion b)))) room ≡ fit → (sends (s .settings) (s .sender) Text (Byte 47) (b ∷ xs) room .taken ≡ 0 → ⊥)
         → taking Host s (b ∷ xs) room more ≡ taking Host (texting s (s .sender)) (b ∷ xs) room more
     go true e fit f n = absurd (n (rw e))
     go false e false f n = absurd (n (rw (e, f)))
@@ -105,14 +105,14 @@ first-same s (b ∷ xs) room more m h n = go (eqb b 47) refl (leb (length (items
         rw (u, fits)
 
 module _ (s : State) (ok : sound s ≡ true) (m : isPrinter (route (s .connection) Host) ≡ true) (h : isText (s .reader .stage) ≡ true) (input old now : List ℕ) (x : Sent)
-    (f : Sends (sends (s .settings) (s .sender) Text true input (length old)) old now x) where
+    (f : Sends (sends (s .settings) (s .sender) Text (Byte 47) input (length old)) old now x) where
   abbrev d : Run
-  d = sends (s .settings) (s .sender) Text true input (length old)
+  d = sends (s .settings) (s .sender) Text (Byte 47) input (length old)
 
   -- no byte was sent
   pub text-none : x .taken ≡ 0 → Runs Host s input old now (record { state = s; taken = 0; count = 0 })
   text-none z =
-      let none : d .codes ≡ [] = run-none (s .settings) (s .sender) Text true input (length old) (sym (ap (λ (u : Sent). u .taken) (f .gives)) ∙ z) in
+      let none : d .codes ≡ [] = run-none (s .settings) (s .sender) Text (Byte 47) input (length old) (sym (ap (λ (u : Sent). u .taken) (f .gives)) ∙ z) in
       let same : now ≡ old = rw none at (f .places .places) in
       rw same (unmoved Host s input old ok)
 
@@ -122,13 +122,13 @@ module _ (s : State) (ok : sound s ≡ true) (m : isPrinter (route (s .connectio
       let n : d .taken ≡ 0 → ⊥ = λ e. z (ap (λ (u : Sent). u .taken) (f .gives) ∙ e) in
       rw (f .gives) (record {
         new = d .codes;
-        within = run-within (s .settings) (s .sender) Text true input (length old);
+        within = run-within (s .settings) (s .sender) Text (Byte 47) input (length old);
         kept = texting-sound s (d .sender) ok;
         places = rw (f .gives) at (f .places);
         rest =
             λ room.
             first-same s input (length old) room m h n
-            ∙ plainly Host (s .settings) (λ y z. texting s y) asText (keeps-text (s .settings)) (plain-text s m) input (s .sender) Text (length old) room refl;
+            ∙ plainly Host (s .settings) (λ y z. texting s y) (Byte 47) asText (keeps-text (s .settings)) (plain-text s m) input (s .sender) Text (length old) room refl;
       })
 
 -- TU codes.
@@ -143,7 +143,7 @@ open-codes ToPrinter s c h = refl
 open-codes ToHost s c h = absurd (false≢true h)
 open-codes ToTu s c h = absurd (false≢true h)
 
-plain-codes : (s : State) → isPrinter (route (s .connection) Tu) ≡ true → (x : Sender) (a : Asks) (b : ℕ) → asCodes a ≡ true → isSpecial a b ≡ false → Plain Tu (s .settings) (coding s) x a b
+plain-codes : (s : State) → isPrinter (route (s .connection) Tu) ≡ true → (x : Sender) (a : Asks) (b : ℕ) → asCodes a ≡ true → stopsAt (Above 31) b ≡ false → Plain Tu (s .settings) (coding s) x a b
 plain-codes s m x Text b h e = absurd (false≢true h)
 plain-codes s m x (Codes case) b h e =
     let u = open-codes (route (s .connection) Tu) (coding s x (Codes case)) b m in
@@ -155,14 +155,14 @@ coding-sound s x a ok =
     parts-sound (coding s x a) (record { held = p .held; stage = p .stage; eleven = p .eleven })
 
 pub codes-run : (s : State) (ok : sound s ≡ true) (m : isPrinter (route (s .connection) Tu) ≡ true) (input old now : List ℕ) (x : Sent)
-    → Sends (sends (s .settings) (s .sender) (Codes (s .incoming)) true input (length old)) old now x
+    → Sends (sends (s .settings) (s .sender) (Codes (s .incoming)) (Above 31) input (length old)) old now x
     → Runs Tu s input old now (record { state = coding s (x .sender) (x .asks); taken = x .taken; count = x .count })
 codes-run s ok m input old now x f =
-    let d = sends (s .settings) (s .sender) (Codes (s .incoming)) true input (length old) in
+    let d = sends (s .settings) (s .sender) (Codes (s .incoming)) (Above 31) input (length old) in
     rw (f .gives) (record {
       new = d .codes;
-      within = run-within (s .settings) (s .sender) (Codes (s .incoming)) true input (length old);
+      within = run-within (s .settings) (s .sender) (Codes (s .incoming)) (Above 31) input (length old);
       kept = coding-sound s (d .sender) (d .asks) ok;
       places = rw (f .gives) at (f .places);
-      rest = λ room. plainly Tu (s .settings) (coding s) asCodes (keeps-codes (s .settings)) (plain-codes s m) input (s .sender) (Codes (s .incoming)) (length old) room refl;
+      rest = λ room. plainly Tu (s .settings) (coding s) (Above 31) asCodes (keeps-codes (s .settings)) (plain-codes s m) input (s .sender) (Codes (s .incoming)) (length old) room refl;
     })

@@ -25,3 +25,5 @@ pub use Rattle.step.specs.declared.Taken.{Taken}
 pub use Rattle.linebox.specs.declared.Ran.{Ran}
 pub use Rattle.sender.specs.declared.Asks.{Asks}
 pub use Rattle.sender.specs.declared.Asks.the-variants.{Text, Codes}
+pub use Rattle.sender.specs.declared.Until.{Until}
+pub use Rattle.sender.specs.declared.Until.the-variants.{Byte, Above}

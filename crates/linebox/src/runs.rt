@@ -10,6 +10,7 @@ use crate::Ran;
 use command::Reader;
 use command::Stage;
 use sender::Asks;
+use sender::Until;
 use step::State;
 use step::Stream;
 use step::routes::prints;
@@ -52,7 +53,7 @@ fn run_text(s: State, input: &[u8], line: &mut [u8]) -> Ran
 {
     let settings = s.settings;
     let sender = s.sender;
-    let x = sender::runs::send(settings, sender, Asks::Text, true, input, line);
+    let x = sender::runs::send(settings, sender, Asks::Text, Until::Byte(b'/'), input, line);
     let after = x.sender;
     if x.taken == 0 {
         return unmoved(s);
@@ -88,7 +89,7 @@ fn run_codes(s: State, codes: &[u8], line: &mut [u8]) -> Ran
     let settings = s.settings;
     let sender = s.sender;
     let case = s.incoming;
-    let x = sender::runs::send(settings, sender, Asks::Codes(case), true, codes, line);
+    let x = sender::runs::send(settings, sender, Asks::Codes(case), Until::Above(31), codes, line);
     let after = x.sender;
     let asks = x.asks;
     Ran {
