@@ -10,12 +10,12 @@ use lib.Dec.{eqb}
 use lib.ListN.{length, length-append}
 use Rattle.code.specs.Kinds.{kindOf, shifts, moves}
 use Rattle.settings.specs.Options.{onspace, onreturn, filter, endingCodes}
-use Rattle.sender.specs.Names.{Case, Letters, Figures, Kind, Still, Space, Return, Shift, Char, Conversion, Nothing, Free, Cased, Settings, Known, Is, Record, Wanted, Sender}
+use Rattle.sender.specs.Names.{Case, Letters, Figures, Kind, Still, Space, Return, Shift, Char, Conversion, Nothing, Free, Cased, Settings, Known, Is, Record, Wanted, Sender, Text}
 use Rattle.sender.specs.Names.known
 use Rattle.sender.specs.Record.{notes}
 use Rattle.sender.specs.Code.{shiftTo, unshift, sendKind, sendAs}
 use Rattle.sender.specs.Ending.{onRecord, endingCode, endingOf, untilZero, due, ending, endingBefore}
-use Rattle.sender.specs.Item.{character, lastOf, repeats, item, items, wanted, wantedOf}
+use Rattle.sender.specs.Item.{character, lastOf, repeats, item, items, wanted, wantedOf, converted, wantedBy, wantedText}
 
 shift-length : (n : Known) (want : Case) → length (shifts (shiftTo n want)) ≤ 1
 shift-length known.Unknown want = omega arith
@@ -53,11 +53,16 @@ until-length (c ∷ cs) = go (eqb c 0) (until-length cs)
     go true h = omega arith
     go false h = omega arith
 
--- a byte's items are one at most
+-- a byte is one item at most
 pub wanted-few : (x : Conversion) → length (wantedOf x) ≤ 1
 wanted-few Nothing = omega arith
 wanted-few (Free c) = omega arith
 wanted-few (Cased case c) = omega arith
+
+-- and a text no more than it has bytes
+pub text-few : (bs : List ℕ) → length (wantedText bs) ≤ length bs
+text-few [] = omega arith
+text-few (b ∷ bs) = rw (length-append (wantedBy Text b) (wantedText bs)) (omega (arith, wanted-few (converted Text b), text-few bs))
 
 module _ (o : Settings) (eight : length (endingCodes o) ≡ 8) where
   ending-most : (r : Record) (b : Bool) → length (ending o r b) ≤ 16

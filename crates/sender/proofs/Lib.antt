@@ -4,4 +4,5 @@ mod Shifted
 pub mod Few
 mod Endings
 mod OneItem
+mod Texts
 pub mod Sending

@@ -15,8 +15,8 @@ use Rattle.laws.specs.Written.{Filled}
 use Rattle.laws.proofs.Either.{either-way}
 use Rattle.laws.proofs.Filled.{filled-none, filled-on}
 use Rattle.sender.specs.Names.{Conversion, Nothing, Free, Cased, Settings, Sender, Asks, Until, Item}
-use Rattle.sender.specs.Item.{items, afterItems, wantedOf}
-use Rattle.sender.specs.Sends.{converted, isNone, wantedAs, asksNext, stopsAt, Run, stopped, onward, sends, Puts, Sends}
+use Rattle.sender.specs.Item.{items, afterItems, wantedOf, wantedBy}
+use Rattle.sender.specs.Sends.{isNone, wantedAs, asksNext, stopsAt, Run, stopped, onward, sends, Puts, Sends}
 
 -- where there is a code, it is the one item
 pub one-wanted : (x : Conversion) → isNone x ≡ false → wantedOf x ≡ wantedAs x ∷ []
@@ -62,7 +62,7 @@ module _ (o : Settings) (start : Sender) (first : Asks) (until : Until) (bytes o
     module _ (lt : n < length bytes) where
       -- the next byte's codes
       abbrev cs : List ℕ
-      cs = items o s (wantedOf (converted asks (getD bytes n 0)))
+      cs = items o s (wantedBy asks (getD bytes n 0))
 
       pub no-room : leb (length cs) (length now - k) ≡ false → Sends (sends o start first until bytes (length old)) old now (record { sender = s; asks = asks; taken = n; count = k })
       no-room h = stops (rw (drop-cons bytes n 0 lt, ← e .places .same-length, h) (either-way (stopsAt until (getD bytes n 0)) (stopped s asks)))
@@ -72,11 +72,11 @@ module _ (o : Settings) (start : Sender) (first : Asks) (until : Until) (bytes o
 
       -- one byte more
       pub sends-on : leb (length cs) (length now - k) ≡ true → stopsAt until (getD bytes n 0) ≡ false → (ys : List ℕ) (x : Item)
-          → Puts o s (wantedOf (converted asks (getD bytes n 0))) (midOf k (length now - k) now) ys x
+          → Puts o s (wantedBy asks (getD bytes n 0)) (midOf k (length now - k) now) ys x
           → Sending o start first until bytes old (x .sender) (asksNext o asks (getD bytes n 0)) (n + 1) (putMid k (length now - k) now ys) (k + x .count)
       sends-on h z ys x f =
           let b = getD bytes n 0 in
-          let ws = wantedOf (converted asks b) in
+          let ws = wantedBy asks b in
           let a = length old - k in
           let u : leb (length cs) a ≡ true = rw (e .places .same-length) at h in
           let v : a - length cs ≡ length old - (k + x .count) = omega (arith, f .places .count) in
@@ -91,11 +91,11 @@ module _ (o : Settings) (start : Sender) (first : Asks) (until : Until) (bytes o
 -- no more bytes than there are
 pub run-within : (o : Settings) (s : Sender) (asks : Asks) (until : Until) (bs : List ℕ) (room : ℕ) → sends o s asks until bs room .taken ≤ length bs
 run-within o s asks until [] room = omega arith
-run-within o s asks until (b ∷ bs) room = go (stopsAt until b) (leb (length (items o s (wantedOf (converted asks b)))) room) (run-within o _ _ until bs _)
+run-within o s asks until (b ∷ bs) room = go (stopsAt until b) (leb (length (items o s (wantedBy asks b))) room) (run-within o _ _ until bs _)
   where
     go : (halts fits : Bool)
-        → (let ws = wantedOf (converted asks b) in sends o (afterItems o s ws) (asksNext o asks b) until bs (room - length (items o s ws)) .taken ≤ length bs)
-        → (let ws = wantedOf (converted asks b) in cond halts (stopped s asks) (cond fits (onward (items o s ws) (sends o (afterItems o s ws) (asksNext o asks b) until bs (room - length (items o s ws)))) (stopped s asks)) .taken) ≤ length (b ∷ bs)
+        → (let ws = wantedBy asks b in sends o (afterItems o s ws) (asksNext o asks b) until bs (room - length (items o s ws)) .taken ≤ length bs)
+        → (let ws = wantedBy asks b in cond halts (stopped s asks) (cond fits (onward (items o s ws) (sends o (afterItems o s ws) (asksNext o asks b) until bs (room - length (items o s ws)))) (stopped s asks)) .taken) ≤ length (b ∷ bs)
     go true fits h = omega arith
     go false true h = omega (arith, h)
     go false false h = omega arith
@@ -103,10 +103,10 @@ run-within o s asks until (b ∷ bs) room = go (stopsAt until b) (leb (length (i
 -- no bytes, no codes
 pub run-none : (o : Settings) (s : Sender) (asks : Asks) (until : Until) (bs : List ℕ) (room : ℕ) → sends o s asks until bs room .taken ≡ 0 → sends o s asks until bs room .codes ≡ []
 run-none o s asks until [] room e = refl
-run-none o s asks until (b ∷ bs) room e = go (stopsAt until b) (leb (length (items o s (wantedOf (converted asks b)))) room) e
+run-none o s asks until (b ∷ bs) room e = go (stopsAt until b) (leb (length (items o s (wantedBy asks b))) room) e
   where
     go : (halts fits : Bool)
-        → let ws = wantedOf (converted asks b) in
+        → let ws = wantedBy asks b in
         let d = cond halts (stopped s asks) (cond fits (onward (items o s ws) (sends o (afterItems o s ws) (asksNext o asks b) until bs (room - length (items o s ws)))) (stopped s asks)) in d .taken ≡ 0 → d .codes ≡ []
     go true fits e = refl
     go false true e = absurd (omega (arith, e))

@@ -3,8 +3,9 @@ use Prim.Native.Nat.{ℕ}
 use mathlib.Core.Bool.{Bool, true, false, cond, _&&_}
 use mathlib.Core.List.{List, [], _∷_, _++_}
 use Rattle.code.specs.Kinds.{kindOf}
+use Rattle.code.specs.Convert.{conversion}
 use Rattle.settings.specs.Options.{onspace, onreturn, filter}
-use Rattle.sender.specs.Names.{Case, Letters, Figures, Kind, Still, Space, Return, Shift, Char, Conversion, Nothing, Free, Cased, Settings, Record, Last, Wanted, Sender}
+use Rattle.sender.specs.Names.{Case, Letters, Figures, Kind, Still, Space, Return, Shift, Char, Conversion, Nothing, Free, Cased, Settings, Record, Last, Wanted, Sender, Asks, Text, Codes}
 use Rattle.sender.specs.Names.last
 use Rattle.sender.specs.Record.{unknown, notes}
 use Rattle.sender.specs.Code.{sendAs}
@@ -55,11 +56,25 @@ fresh = record { held = unknown; last = last.Other }
 abbrev pub wanted : Case → ℕ → Wanted
 wanted case c = record { case = case; code = c }
 
--- host text with a code; a code that does not depend on case wants any
+-- a code, if there is one; one that does not depend on case wants any
 abbrev pub wantedOf : Conversion → List Wanted
 wantedOf Nothing = []
 wantedOf (Free c) = wanted Letters c ∷ []
 wantedOf (Cased case c) = wanted case c ∷ []
+
+-- what a byte stands for: text by the conversion, a TU code in the incoming reading case
+abbrev pub converted : Asks → ℕ → Conversion
+converted Text b = conversion b
+converted (Codes case) c = Cased case c
+
+-- what a byte asks for
+abbrev pub wantedBy : Asks → ℕ → List Wanted
+wantedBy asks b = wantedOf (converted asks b)
+
+-- what a text asks for
+abbrev pub wantedText : List ℕ → List Wanted
+wantedText [] = []
+wantedText (b ∷ bs) = wantedBy Text b ++ wantedText bs
 
 abbrev pub unshiftedBy : Bool → Case → Case
 unshiftedBy true case = Letters

@@ -7,10 +7,9 @@ use lib.Dec.{eqb, leb, ltb}
 use lib.ListN.{length}
 use Rattle.laws.specs.Written.{fronted, Filled}
 use Rattle.code.specs.Kinds.{kindOf}
-use Rattle.code.specs.Convert.{conversion}
 use Rattle.sender.specs.Names.{Letters, Conversion, Nothing, Free, Cased, Settings, Record, Wanted, Sender, Asks, Text, Codes, Until, Never, Byte, Above, Noted, Item, Sent}
 use Rattle.sender.specs.Record.{notes}
-use Rattle.sender.specs.Item.{items, afterItems, wanted, wantedOf, incoming}
+use Rattle.sender.specs.Item.{items, afterItems, wanted, wantedBy, incoming}
 
 -- what is told of codes that go out: the record after them, and how many they are
 abbrev pub noted : Settings → Record → List ℕ → Noted
@@ -30,12 +29,7 @@ pub record Puts (o : Settings) (s : Sender) (ws : List Wanted) (old now : List �
   pub sender : r .sender ≡ afterItems o s ws
   pub places : Filled old now (items o s ws) (r .count)
 
--- what a byte stands for: text by the conversion, a TU code in the incoming reading case
-abbrev pub converted : Asks → ℕ → Conversion
-converted Text b = conversion b
-converted (Codes case) c = Cased case c
-
--- whether it has no code
+-- whether there is no code
 abbrev pub isNone : Conversion → Bool
 isNone Nothing = true
 isNone (Free c) = false
@@ -76,7 +70,7 @@ onward cs d = record { sender = d .sender; asks = d .asks; taken = suc (d .taken
 abbrev pub sends : Settings → Sender → Asks → Until → List ℕ → ℕ → Run
 sends o s asks until [] room = stopped s asks
 sends o s asks until (b ∷ bs) room =
-    let ws = wantedOf (converted asks b) in
+    let ws = wantedBy asks b in
     cond (stopsAt until b) (stopped s asks)
     (cond (leb (length (items o s ws)) room) (onward (items o s ws) (sends o (afterItems o s ws) (asksNext o asks b) until bs (room - length (items o s ws)))) (stopped s asks))
 

@@ -4,8 +4,8 @@ ghost use Prim.Native.Nat.{_≤_, _<_};
 ghost use lib.Dec.{leb};
 ghost use lib.ListN.{length};
 ghost use Rattle.convert.specs.Entry.{Tabled};
-ghost use Rattle.sender.specs.Item.{items, wantedOf, unshiftedBy, incoming};
-ghost use Rattle.sender.specs.Sends.{counted, converted, isNone, wantedAs, asksNext, stopsAt, Puts, sends, Sends};
+ghost use Rattle.sender.specs.Item.{items, wantedOf, converted, wantedBy, wantedText, unshiftedBy, incoming};
+ghost use Rattle.sender.specs.Sends.{counted, isNone, wantedAs, asksNext, stopsAt, Puts, sends, Sends};
 use crate::Asks;
 use crate::Item;
 use crate::Sender;
@@ -114,10 +114,30 @@ fn count_asked(o: Settings, s: Sender, x: Conversion) -> Item
 
 // How many codes a byte is, and the sender after it.
 pub fn count(o: Settings, s: Sender, asks: Asks, b: u8) -> Item
-    ensures { λ r. ⌜ (r .count ≤ 18) × (r ≡ counted o s (wantedOf (converted asks b))) ⌝ }
+    ensures { λ r. ⌜ (r .count ≤ 18) × (r ≡ counted o s (wantedBy asks b)) ⌝ }
 {
     let table = convert::table();
     count_asked(o, s, convert_as(asks, &table, b))
+}
+
+// How many codes a text of one or two bytes is, and the sender after it.
+pub fn count_text(o: Settings, start: Sender, text: &[u8]) -> Item
+    requires { ⌜ length (now text) ≤ 2 ⌝ }
+    ensures { λ r. ⌜ r ≡ counted o start (wantedText (now (text .entry))) ⌝ }
+{
+    let mut sender = start;
+    let mut codes = 0;
+    let mut i = 0;
+    while i < text.len() {
+        let x = count(o, sender, Asks::Text, text[i]);
+        sender = x.sender;
+        codes += x.count;
+        i += 1;
+    }
+    Item {
+        sender,
+        count: codes,
+    }
 }
 
 // The most codes that a byte can be: two for each of string 90's codes, and two for its own.
@@ -129,7 +149,7 @@ fn most(string: [u8; 8]) -> usize
 
 // Whether a byte's codes have room: no byte is more than eighteen, and with fewer places free they are counted.
 fn has_room(o: Settings, s: Sender, asks: Asks, b: u8, room: usize) -> bool
-    ensures { λ r. ⌜ r ≡ leb (length (items o s (wantedOf (converted asks b)))) room ⌝ }
+    ensures { λ r. ⌜ r ≡ leb (length (items o s (wantedBy asks b))) room ⌝ }
 {
     if most(o.ending_codes()) <= room {
         return true;

@@ -6,8 +6,7 @@ use native.Mathlib.Omega.{arith}
 use lib.ListN.{length}
 use borrow.Author.Tests.{le-leb}
 use Rattle.settings.specs.Options.{endingCodes}
-use Rattle.sender.specs.Item.{items, wantedOf}
-use Rattle.sender.specs.Sends.{converted}
+use Rattle.sender.specs.Item.{items, converted, wantedBy}
 use Rattle.sender.proofs.Few.{byte-most}
 use borrow.Author.Needs.{needs}
 use Rattle.sender.proofs.runs.has_room.Statement.{statement}
@@ -24,7 +23,7 @@ returns c =
     let m = c .before in
     let a = m .before .before .args in
     let n : length (endingCodes (a .o)) ≡ 8 = rw (m .before .ending-codes .ensures) at (m .most .ensures .1) in
-    let h : length (items (a .o) (a .s) (wantedOf (converted (a .asks) (a .b)))) ≤ a .room = omega (arith, byte-most (a .o) n (a .s) (converted (a .asks) (a .b)), m .most .ensures .0, c .if1 .taken) in
+    let h : length (items (a .o) (a .s) (wantedBy (a .asks) (a .b))) ≤ a .room = omega (arith, byte-most (a .o) n (a .s) (converted (a .asks) (a .b)), m .most .ensures .0, c .if1 .taken) in
     sym (le-leb _ _ h)
 
 count-requires : tie.Need-count-requires
