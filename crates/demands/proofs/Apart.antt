@@ -4,9 +4,10 @@ use Prim.Native.Nat.{ℕ}
 use mathlib.Core.Path.{_≡_, refl, ap, _∙_}
 use mathlib.Core.List.{List, [], _∷_, _++_}
 use Rattle.command.specs.Read.{read}
+use Rattle.step.specs.Route.{route}
 use Rattle.step.specs.State.{withReader, withSender}
 use Rattle.step.specs.Step.{hosted, lined, tued, step, Event}
-use Rattle.demands.specs.Names.{Reader, Out, Nothing, One, Two, Finished, Connection, Mode1, Mode4, Mode10, Mode11, Sender, State, Stream, Host, Line, Tu}
+use Rattle.demands.specs.Names.{Reader, Out, Nothing, One, Two, Finished, Route, Dropped, ToPrinter, ToHost, ToTu, Sender, State, Stream, Host, Line, Tu}
 use Rattle.demands.specs.Asks.{asksBy}
 use Rattle.demands.specs.Whole.{asksAll}
 
@@ -17,23 +18,23 @@ module _ (s : State) (x : Sender) where
   hosted-apart r (Two b) = refl
   hosted-apart r (Finished v count) = refl
 
-  lined-apart : (k : Connection) (c : ℕ) → let y = lined k (withSender s x) c .state in y ≡ withSender (lined k s c .state) (y .sender)
-  lined-apart (Mode1 port speed) c = refl
-  lined-apart (Mode4 port speed) c = refl
-  lined-apart Mode10 c = refl
-  lined-apart Mode11 c = refl
+  lined-apart : (k : Route) (c : ℕ) → let y = lined k (withSender s x) c .state in y ≡ withSender (lined k s c .state) (y .sender)
+  lined-apart Dropped c = refl
+  lined-apart ToPrinter c = refl
+  lined-apart ToHost c = refl
+  lined-apart ToTu c = refl
 
-  tued-apart : (k : Connection) (c : ℕ) → let y = tued k (withSender s x) c .state in y ≡ withSender (tued k s c .state) (y .sender)
-  tued-apart (Mode1 port speed) c = refl
-  tued-apart (Mode4 port speed) c = refl
-  tued-apart Mode10 c = refl
-  tued-apart Mode11 c = refl
+  tued-apart : (k : Route) (c : ℕ) → let y = tued k (withSender s x) c .state in y ≡ withSender (tued k s c .state) (y .sender)
+  tued-apart Dropped c = refl
+  tued-apart ToPrinter c = refl
+  tued-apart ToHost c = refl
+  tued-apart ToTu c = refl
 
   -- a byte leaves the same state, but for the sender
   step-apart : (t : Stream) (b : ℕ) → let y = step t (withSender s x) b .state in y ≡ withSender (step t s b .state) (y .sender)
   step-apart Host b = hosted-apart (read (s .reader) b .reader) (read (s .reader) b .out)
-  step-apart Line b = lined-apart (s .connection) b
-  step-apart Tu b = tued-apart (s .connection) b
+  step-apart Line b = lined-apart (route (s .connection) Line) b
+  step-apart Tu b = tued-apart (route (s .connection) Tu) b
 
   asks-apart : (t : Stream) (b : ℕ) → asksBy t (withSender s x) b ≡ asksBy t s b
   asks-apart Host b = refl

@@ -17,6 +17,7 @@ use Rattle.settings.specs.Options.{reports, endingCodes}
 use Rattle.settings.proofs.Sent.{answers-short}
 use Rattle.sender.specs.Item.{wanted}
 use Rattle.agree.proofs.Length.{item-length, items-length}
+use Rattle.step.specs.Route.{route}
 use Rattle.step.specs.State.{sound, withReader}
 use Rattle.step.specs.Step.{Step, sends, released, text, hosted, isRead, readAs, lined, tued, step}
 use Rattle.step.specs.Byte.{firstOf, secondOf}
@@ -26,23 +27,22 @@ use Rattle.step.proofs.Stays.{sound-parts}
 use Rattle.linebox.specs.Call.{call}
 use Rattle.linebox.specs.Ends.{fitsAt, Ends}
 use Rattle.linebox.proofs.Ending.{ends}
-use Rattle.demands.specs.Names.{Case, Kind, Wanted, Connection, Mode1, Mode4, Mode10, Mode11, Out, Nothing, One, Two, Finished, State, Stream, Host, Line, Tu}
+use Rattle.demands.specs.Names.{Case, Kind, Wanted, Route, Dropped, ToPrinter, ToHost, ToTu, Out, Nothing, One, Two, Finished, State, Stream, Host, Line, Tu}
 
-text-few : (k : Connection) (slash : Bool) (b : ℕ) → length (text k (released slash b)) ≤ 2
-text-few (Mode1 port speed) slash b = asked-few slash b
-text-few (Mode4 port speed) slash b = lit≤ tt
-text-few Mode10 slash b = lit≤ tt
-text-few Mode11 slash b = lit≤ tt
+text-few : (k : Route) (slash : Bool) (b : ℕ) → length (text k (released slash b)) ≤ 2
+text-few Dropped slash b = lit≤ tt
+text-few ToPrinter slash b = asked-few slash b
+text-few ToHost slash b = lit≤ tt
+text-few ToTu slash b = lit≤ tt
 
 -- at most two items
 sends-few : (s : State) (ws : List Wanted) → Sound (s .settings) (s .connection) → length ws ≤ 2 → Few Host (sends s ws)
-unfolding endingCodes
-sends-few s ws h few = record { line = items-length (s .settings) (h .settings) (h .places) (s .sender) ws few; host = lit≤ tt; tu = lit≤ tt }
+sends-few s ws h few = record { line = items-length (s .settings) (h .settings) (s .sender) ws few; host = lit≤ tt; tu = lit≤ tt }
 
 hosted-few : (s : State) (fields : List ℕ) (out : Out) → length fields ≡ 11 → Sound (s .settings) (s .connection) → Few Host (hosted s fields out)
 hosted-few s fields Nothing l h = record { line = lit≤ tt; host = lit≤ tt; tu = lit≤ tt }
-hosted-few s fields (One b) l h = sends-few s (text (s .connection) (released false b)) h (text-few (s .connection) false b)
-hosted-few s fields (Two b) l h = sends-few s (text (s .connection) (released true b)) h (text-few (s .connection) true b)
+hosted-few s fields (One b) l h = sends-few s (text (route (s .connection) Host) (released false b)) h (text-few (route (s .connection) Host) false b)
+hosted-few s fields (Two b) l h = sends-few s (text (route (s .connection) Host) (released true b)) h (text-few (route (s .connection) Host) true b)
 hosted-few s fields (Finished v count) l h = record { line = lit≤ tt; host = answers-short (s .settings) (s .connection) h v count fields l .short; tu = lit≤ tt }
 
 read-few : (reports : Bool) (case : Case) (k : Kind) (c : ℕ) → length (readAs reports case k c) ≤ 1
@@ -52,23 +52,22 @@ read-few reports case k c = go (isRead reports k)
     go true = lit≤ tt
     go false = lit≤ tt
 
-lined-few : (k : Connection) (s : State) (c : ℕ) → Few Line (lined k s c)
-lined-few (Mode1 port speed) s c = record { line = lit≤ tt; host = read-few (reports (s .settings)) (s .reading) (kindOf c) c; tu = lit≤ tt }
-lined-few (Mode4 port speed) s c = record { line = lit≤ tt; host = lit≤ tt; tu = lit≤ tt }
-lined-few Mode10 s c = record { line = lit≤ tt; host = lit≤ tt; tu = lit≤ tt }
-lined-few Mode11 s c = record { line = lit≤ tt; host = lit≤ tt; tu = lit≤ tt }
+lined-few : (k : Route) (s : State) (c : ℕ) → Few Line (lined k s c)
+lined-few Dropped s c = record { line = lit≤ tt; host = lit≤ tt; tu = lit≤ tt }
+lined-few ToPrinter s c = record { line = lit≤ tt; host = lit≤ tt; tu = lit≤ tt }
+lined-few ToHost s c = record { line = lit≤ tt; host = read-few (reports (s .settings)) (s .reading) (kindOf c) c; tu = lit≤ tt }
+lined-few ToTu s c = record { line = lit≤ tt; host = lit≤ tt; tu = lit≤ tt }
 
-tued-few : (k : Connection) (s : State) (c : ℕ) → Sound (s .settings) (s .connection) → Few Tu (tued k s c)
-unfolding endingCodes
-tued-few (Mode1 port speed) s c h = record { line = lit≤ tt; host = lit≤ tt; tu = lit≤ tt }
-tued-few (Mode4 port speed) s c h = record { line = rw append-nil (item-length (s .settings) (h .settings) (h .places) (s .sender) (wanted (s .incoming) c)); host = lit≤ tt; tu = lit≤ tt }
-tued-few Mode10 s c h = record { line = lit≤ tt; host = lit≤ tt; tu = lit≤ tt }
-tued-few Mode11 s c h = record { line = lit≤ tt; host = lit≤ tt; tu = lit≤ tt }
+tued-few : (k : Route) (s : State) (c : ℕ) → Sound (s .settings) (s .connection) → Few Tu (tued k s c)
+tued-few Dropped s c h = record { line = lit≤ tt; host = lit≤ tt; tu = lit≤ tt }
+tued-few ToPrinter s c h = record { line = rw append-nil (item-length (s .settings) (h .settings) (s .sender) (wanted (s .incoming) c)); host = lit≤ tt; tu = lit≤ tt }
+tued-few ToHost s c h = record { line = lit≤ tt; host = lit≤ tt; tu = lit≤ tt }
+tued-few ToTu s c h = record { line = lit≤ tt; host = lit≤ tt; tu = lit≤ tt }
 
 step-few : (t : Stream) (s : State) (b : ℕ) → Parts s → Few t (step t s b)
 step-few Host s b p = hosted-few (withReader s (read (s .reader) b .reader)) (s .reader .values) (read (s .reader) b .out) (p .eleven) (p .held)
-step-few Line s b p = lined-few (s .connection) s b
-step-few Tu s b p = tued-few (s .connection) s b (p .held)
+step-few Line s b p = lined-few (route (s .connection) Line) s b
+step-few Tu s b p = tued-few (route (s .connection) Tu) s b (p .held)
 
 -- the true maxima
 pub most : (t : Stream) (s : State) (b : ℕ) → sound s ≡ true → Few t (step t s b)

@@ -17,8 +17,9 @@ use Rattle.code.specs.Kinds.{kindOf}
 use Rattle.code.specs.Convert.{capital, seek, conversion}
 use Rattle.command.specs.Read.{read, textOf}
 use Rattle.sender.specs.Item.{wantedOf}
+use Rattle.step.specs.Route.{route}
 use Rattle.step.specs.Step.{asked, text, Event}
-use Rattle.demands.specs.Names.{Case, Letters, Figures, Conversion, Connection, Mode1, Mode4, Mode10, Mode11, Wanted, State, Stream, Host, Line, Tu}
+use Rattle.demands.specs.Names.{Case, Letters, Figures, Conversion, Connection, Dropped, ToPrinter, Wanted, State, Stream, Host, Line, Tu}
 use Rattle.demands.specs.Asks.{textByte, textBytes, hostAsks, codeIn, tuAsks, asksBy, asks}
 use Rattle.demands.specs.Items.{carriedTo, itemsBy, itemsOf}
 
@@ -72,18 +73,22 @@ text-reads : (bs : List ℕ) → reads (asked bs) ≡ textBytes bs
 text-reads [] = refl
 text-reads (b ∷ bs) = rw (reads-append (wantedOf (conversion b)) (asked bs), byte-reads b, text-reads bs)
 
--- by the mode
-host-reads : (k : Connection) (bs : List ℕ) → reads (text k bs) ≡ hostAsks k bs
-host-reads (Mode1 port speed) bs = text-reads bs
-host-reads (Mode4 port speed) bs = refl
-host-reads Mode10 bs = refl
-host-reads Mode11 bs = refl
+-- the box's route is the mode's
+host-reads : (k : Connection) (bs : List ℕ) → reads (text (route k Host) bs) ≡ hostAsks k bs
+unfolding route
+host-reads k bs = go (eqb (k .mode) 1)
+  where
+    go : (b : Bool) → reads (text (cond b ToPrinter Dropped) bs) ≡ cond b (textBytes bs) []
+    go true = text-reads bs
+    go false = refl
 
-tu-reads : (k : Connection) (s : State) (c : ℕ) → reads (carriedTo k s c) ≡ tuAsks k (s .incoming) c
-tu-reads (Mode1 port speed) s c = refl
-tu-reads (Mode4 port speed) s c = append-nil (codeIn (s .incoming) c)
-tu-reads Mode10 s c = refl
-tu-reads Mode11 s c = refl
+tu-reads : (k : Connection) (s : State) (c : ℕ) → reads (carriedTo (route k Tu) s c) ≡ tuAsks k (s .incoming) c
+unfolding route
+tu-reads k s c = go (eqb (k .mode) 4)
+  where
+    go : (b : Bool) → reads (carriedTo (cond b ToPrinter Dropped) s c) ≡ cond b (codeIn (s .incoming) c) []
+    go true = append-nil (codeIn (s .incoming) c)
+    go false = refl
 
 reads-by : (t : Stream) (s : State) (b : ℕ) → reads (itemsBy t s b) ≡ asksBy t s b
 reads-by Host s b = host-reads (s .connection) (textOf (read (s .reader) b .out))

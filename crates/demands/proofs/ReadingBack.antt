@@ -17,12 +17,14 @@ use Rattle.sender.specs.Item.{items, afterItems, fresh}
 use Rattle.agree.specs.Agrees.{Agrees, ObeysAt, Obeys}
 use Rattle.agree.proofs.Agreement.{agreement, unknown-agrees}
 use Rattle.agree.proofs.Folds.{prints-append, items-noted}
+use Rattle.step.specs.Route.{route}
 use Rattle.step.specs.State.{withReader, withReading}
 use Rattle.step.specs.Step.{readAs, readCase, hosted, lined, tued, step, Event, run}
 use Rattle.linebox.specs.Ends.{events, firstsOf, Cut, Fed, feeding}
-use Rattle.step.proofs.Rest.{commanded-keeps}
+use Rattle.settings.proofs.Written.{commanded-keeps}
 use Rattle.linebox.proofs.Cutting.{cutting}
-use Rattle.demands.specs.Names.{Case, Letters, Kind, Still, Space, Return, Shift, Char, Settings, Connection, Mode1, Mode4, Mode10, Mode11, Printer, Reader, Out, Nothing, One, Two, Finished, State, Stream, Host, Line, Tu}
+use Rattle.step.proofs.Ways.{lined-touches, tued-touches}
+use Rattle.demands.specs.Names.{Case, Letters, Kind, Still, Space, Return, Shift, Char, Settings, Connection, Route, ToHost, Printer, Reader, Out, Nothing, One, Two, Finished, State, Stream, Host, Line, Tu}
 use Rattle.demands.specs.Connects.{connecting, connectsBy, connects}
 use Rattle.demands.specs.Items.{itemsOf}
 use Rattle.demands.specs.Asks.{textBytes, hostAsks, tuAsks, asksBy, asks}
@@ -41,12 +43,16 @@ abbrev follower : Case → ℕ → Printer
 follower case n = from case n false false
 
 -- is the box's own reader of line codes
-line-reads : (port speed : ℕ) (cs : List ℕ) (s : State) (n : ℕ) → s .connection ≡ Mode1 port speed → reports (s .settings) ≡ false → firstsOf Line s cs ≡ charactersOf (printsAll (follower (s .reading) n) cs)
-line-reads port speed [] s n e off = refl
-line-reads port speed (c ∷ cs) s n e off =
-    ap (λ (k : Connection). lined k s c .host ++ firstsOf Line (lined k s c .state) cs) e
+to-host : (k : Connection) → k .mode ≡ 1 → route k Line ≡ ToHost
+unfolding route
+to-host k e = rw e
+
+line-reads : (cs : List ℕ) (s : State) (n : ℕ) → s .connection .mode ≡ 1 → reports (s .settings) ≡ false → firstsOf Line s cs ≡ charactersOf (printsAll (follower (s .reading) n) cs)
+line-reads [] s n e off = refl
+line-reads (c ∷ cs) s n e off =
+    ap (λ (k : Route). lined k s c .host ++ firstsOf Line (lined k s c .state) cs) (to-host (s .connection) e)
     ∙ ap (λ (b : Bool). readAs b (s .reading) (kindOf c) c ++ firstsOf Line (withReading s (readCase (s .reading) (kindOf c))) cs) off
-    ∙ go (kindOf c) (λ case m. line-reads port speed cs (withReading s case) m e off)
+    ∙ go (kindOf c) (λ case m. line-reads cs (withReading s case) m e off)
   where
     go : (k : Kind) → ((case : Case) (m : ℕ) → firstsOf Line (withReading s case) cs ≡ charactersOf (printsAll (follower case m) cs))
         → readAs false (s .reading) k c ++ firstsOf Line (withReading s (readCase (s .reading) k)) cs ≡ charactersOf (printsAs k (markAs k (s .reading) n c) ++ printsAll (hearKind (follower (s .reading) n) k) cs)
@@ -102,22 +108,10 @@ hosted-stays s r (One b) h = refl
 hosted-stays s r (Two b) h = refl
 hosted-stays s r (Finished v count) h = commanded-keeps (s .settings) (s .connection) v count (s .reader .values) h
 
-lined-stays : (k : Connection) (s : State) (c : ℕ) → lined k s c .state .connection ≡ s .connection
-lined-stays (Mode1 port speed) s c = refl
-lined-stays (Mode4 port speed) s c = refl
-lined-stays Mode10 s c = refl
-lined-stays Mode11 s c = refl
-
-tued-stays : (k : Connection) (s : State) (c : ℕ) → tued k s c .state .connection ≡ s .connection
-tued-stays (Mode1 port speed) s c = refl
-tued-stays (Mode4 port speed) s c = refl
-tued-stays Mode10 s c = refl
-tued-stays Mode11 s c = refl
-
 stays-by : (t : Stream) (s : State) (b : ℕ) → connectsBy t s b ≡ false → step t s b .state .connection ≡ s .connection
 stays-by Host s b h = hosted-stays s (read (s .reader) b .reader) (read (s .reader) b .out) h
-stays-by Line s b h = lined-stays (s .connection) s b
-stays-by Tu s b h = tued-stays (s .connection) s b
+stays-by Line s b h = ap (λ (x : State). x .connection) (lined-touches (route (s .connection) Line) s b)
+stays-by Tu s b h = ap (λ (x : State). x .connection) (tued-touches (route (s .connection) Tu) s b)
 
 -- The reader of commands moves by host bytes alone.
 
@@ -126,18 +120,6 @@ hosted-reader s fields Nothing = refl
 hosted-reader s fields (One b) = refl
 hosted-reader s fields (Two b) = refl
 hosted-reader s fields (Finished v count) = refl
-
-lined-reader : (k : Connection) (s : State) (c : ℕ) → lined k s c .state .reader ≡ s .reader
-lined-reader (Mode1 port speed) s c = refl
-lined-reader (Mode4 port speed) s c = refl
-lined-reader Mode10 s c = refl
-lined-reader Mode11 s c = refl
-
-tued-reader : (k : Connection) (s : State) (c : ℕ) → tued k s c .state .reader ≡ s .reader
-tued-reader (Mode1 port speed) s c = refl
-tued-reader (Mode4 port speed) s c = refl
-tued-reader Mode10 s c = refl
-tued-reader Mode11 s c = refl
 
 -- What plain events ask for is their text.
 
@@ -149,24 +131,24 @@ text-append : (xs ys : List ℕ) → textBytes (xs ++ ys) ≡ textBytes xs ++ te
 text-append [] ys = refl
 text-append (x ∷ xs) ys = rw (text-append xs ys, append-assoc)
 
-module _ (port speed : ℕ) where
-  asks-text : (s : State) (es : List Event) → s .connection ≡ Mode1 port speed → AllPlain s es → asksAll s es ≡ plainText s es
+module _ where
+  asks-text : (s : State) (es : List Event) → s .connection .mode ≡ 1 → AllPlain s es → asksAll s es ≡ plainText s es
   asks-text s [] e h = refl
-  asks-text s (x ∷ es) e h = go (x .stream) (x .byte) (asks-text (step (x .stream) s (x .byte) .state) es (stays-by (x .stream) s (x .byte) (h .0 .stays) ∙ e) (h .1))
+  asks-text s (x ∷ es) e h = go (x .stream) (x .byte) (asks-text (step (x .stream) s (x .byte) .state) es (ap (λ (k : Connection). k .mode) (stays-by (x .stream) s (x .byte) (h .0 .stays)) ∙ e) (h .1))
     where
       go : (t : Stream) (b : ℕ) → asksAll (step t s b .state) es ≡ plainText (step t s b .state) es
           → asksBy t s b ++ asksAll (step t s b .state) es ≡ textBytes (texts (made (s .reader) (hostByte t b ++ hostBytes es)))
       go Host b rest =
           let r = read (s .reader) b in
           let same : step Host s b .state .reader ≡ r .reader = hosted-reader (withReader s (r .reader)) (s .reader .values) (r .out) in
-          ap (λ (k : Connection). hostAsks k (textOf (r .out)) ++ asksAll (step Host s b .state) es) e
+          ap (λ (m : ℕ). cond (eqb m 1) (textBytes (textOf (r .out))) [] ++ asksAll (step Host s b .state) es) e
           ∙ ap (λ (u : List ℕ). textBytes (textOf (r .out)) ++ u) (rest ∙ ap (λ (q : Reader). textBytes (texts (made q (hostBytes es)))) same)
           ∙ sym (text-append (textOf (r .out)) (texts (made (r .reader) (hostBytes es))))
-      go Line b rest = rest ∙ ap (λ (q : Reader). textBytes (texts (made q (hostBytes es)))) (lined-reader (s .connection) s b)
+      go Line b rest = rest ∙ ap (λ (q : Reader). textBytes (texts (made q (hostBytes es)))) (ap (λ (x : State). x .reader) (lined-touches (route (s .connection) Line) s b))
       go Tu b rest =
-          ap (λ (k : Connection). tuAsks k (s .incoming) b ++ asksAll (step Tu s b .state) es) e
+          ap (λ (m : ℕ). cond (eqb m 4) (codeIn (s .incoming) b) [] ++ asksAll (step Tu s b .state) es) e
           ∙ rest
-          ∙ ap (λ (q : Reader). textBytes (texts (made q (hostBytes es)))) (tued-reader (s .connection) s b)
+          ∙ ap (λ (q : Reader). textBytes (texts (made q (hostBytes es)))) (ap (λ (x : State). x .reader) (tued-touches (route (s .connection) Tu) s b))
 
 -- What a connection command that succeeds hands back.
 
@@ -194,10 +176,10 @@ module _ (s : State) (e : Event) (j : Joins s e) where
   pub reads-back : (es : List Event) → AllPlain joined es → readBack joined (lines joined es) ≡ plainText joined es
   reads-back [] h = refl
   reads-back (x ∷ es) h =
-      line-reads (j .port) (j .speed) (lines joined (x ∷ es)) joined 0 (j .mode1) (h .0 .reports)
+      line-reads (lines joined (x ∷ es)) joined 0 (j .mode1) (h .0 .reports)
       ∙ ap (λ (case : Case). charactersOf (printsAll (follower case 0) (lines joined (x ∷ es)))) (fresh-by (e .stream) s (e .byte) (j .connects) .0)
       ∙ plain-reads joined (follower Letters 0) (x ∷ es) refl refl (joined-agrees (follower Letters 0)) h
-      ∙ asks-text (j .port) (j .speed) joined (x ∷ es) (j .mode1) h
+      ∙ asks-text joined (x ∷ es) (j .mode1) h
 
   -- The same of one host stream, cut into calls in any way and with any rooms, each going on at the first byte not taken.
   pub cut-reads-back : (xs : List ℕ) (cs : List Cut) → AllPlain joined (events Host xs) → feeding Host joined xs cs .taken ≡ length xs

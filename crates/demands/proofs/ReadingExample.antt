@@ -11,9 +11,10 @@ use Rattle.code.specs.Rows.{rowAt}
 use Rattle.code.specs.Kinds.{kindOf}
 use Rattle.code.specs.Convert.{conversion}
 use Rattle.message.specs.Message.{digits}
-use Rattle.settings.specs.Table.{soundString, idOf}
+use Rattle.settings.specs.Table.{row, soundString, soundSettings, soundConnection}
 use Rattle.settings.specs.Command.{commanded}
 use Rattle.settings.specs.Options.{endings, limit, onspace, onreturn, filter, reports, endingCodes}
+use Rattle.step.specs.Route.{route}
 use Rattle.step.specs.State.{freshBox}
 use Rattle.step.specs.Step.{step, Event, run}
 use Rattle.demands.specs.Names.{State}
@@ -45,28 +46,28 @@ all-plain s (e ∷ es) h =
 -- The calls.
 
 pub example-took : tookAll (exchanges ours freshBox calls) ≡ before ++ (joining ∷ (after ++ later))
-unfolding commanded idOf soundString conversion kindOf rowAt digits endings limit onspace onreturn filter reports endingCodes
+unfolding commanded row route soundSettings soundConnection soundString conversion kindOf rowAt digits endings limit onspace onreturn filter reports endingCodes
 example-took = refl
 
 pub example-sent : sentAll (exchanges ours freshBox calls) ≡ codes ++ lastCodes
-unfolding commanded idOf soundString conversion kindOf rowAt digits endings limit onspace onreturn filter reports endingCodes
+unfolding commanded row route soundSettings soundConnection soundString conversion kindOf rowAt digits endings limit onspace onreturn filter reports endingCodes
 example-sent = refl
 
 pub example-joins : Joins (run freshBox before) joining
-unfolding commanded idOf soundString
+unfolding commanded row route soundSettings soundConnection soundString
 example-joins = record { connects = refl; port = 1; speed = 60; mode1 = refl }
 
 pub example-plain : AllPlain connected after
-unfolding commanded idOf soundString conversion kindOf rowAt endings limit onspace onreturn filter reports endingCodes
+unfolding commanded row route soundSettings soundConnection soundString conversion kindOf rowAt endings limit onspace onreturn filter reports endingCodes
 example-plain = all-plain connected after refl
 
 -- the codes that `after` sent, and its text
 pub example-stretch : take (length (lines connected after)) (drop (length (lines freshBox before)) (codes ++ lastCodes)) ≡ codes
-unfolding commanded idOf soundString conversion kindOf rowAt endings limit onspace onreturn filter reports endingCodes
+unfolding commanded row route soundSettings soundConnection soundString conversion kindOf rowAt endings limit onspace onreturn filter reports endingCodes
 example-stretch = refl
 
 pub example-text : plainText connected after ≡ text
-unfolding commanded idOf soundString conversion kindOf rowAt endings limit onspace onreturn filter reports endingCodes
+unfolding commanded row route soundSettings soundConnection soundString conversion kindOf rowAt endings limit onspace onreturn filter reports endingCodes
 example-text = refl
 
 -- so they read back

@@ -6,62 +6,58 @@ use mathlib.Core.Bool.{cond}
 use mathlib.Core.List.{[]}
 use Rattle.command.specs.Read.{read, textOf}
 use Rattle.sender.specs.Item.{items, afterItems, fresh}
+use Rattle.step.specs.Route.{route}
 use Rattle.step.specs.State.{withReader}
 use Rattle.step.specs.Step.{text, hosted, lined, tued, step, Event}
-use Rattle.demands.specs.Names.{Reader, Out, Nothing, One, Two, Finished, Connection, Mode1, Mode4, Mode10, Mode11, Sender, State, Stream, Host, Line, Tu}
+use Rattle.step.proofs.Ways.{lined-touches}
+use Rattle.demands.specs.Names.{Reader, Out, Nothing, One, Two, Finished, Route, Dropped, ToPrinter, ToHost, ToTu, Sender, State, Stream, Host, Line, Tu}
 use Rattle.demands.specs.Connects.{connecting, connectsBy, connects}
 use Rattle.demands.specs.Items.{carriedTo, itemsBy, itemsOf}
 use Rattle.demands.proofs.Sessions.{lined-none}
 
-text-none : (k : Connection) → text k [] ≡ []
-text-none (Mode1 port speed) = refl
-text-none (Mode4 port speed) = refl
-text-none Mode10 = refl
-text-none Mode11 = refl
+text-none : (k : Route) → text k [] ≡ []
+text-none Dropped = refl
+text-none ToPrinter = refl
+text-none ToHost = refl
+text-none ToTu = refl
 
 module _ (s : State) where
   abbrev afterBy : Stream → ℕ → Sender
   afterBy t b = afterItems (s .settings) (s .sender) (itemsBy t s b)
 
-  hosted-line : (r : Reader) (out : Out) → hosted (withReader s r) (s .reader .values) out .line ≡ items (s .settings) (s .sender) (text (s .connection) (textOf out))
-  hosted-line r Nothing = rw (text-none (s .connection))
+  hosted-line : (r : Reader) (out : Out) → hosted (withReader s r) (s .reader .values) out .line ≡ items (s .settings) (s .sender) (text (route (s .connection) Host) (textOf out))
+  hosted-line r Nothing = rw (text-none (route (s .connection) Host))
   hosted-line r (One b) = refl
   hosted-line r (Two b) = refl
-  hosted-line r (Finished v count) = rw (text-none (s .connection))
+  hosted-line r (Finished v count) = rw (text-none (route (s .connection) Host))
 
-  hosted-sender : (r : Reader) (out : Out) → hosted (withReader s r) (s .reader .values) out .state .sender ≡ cond (connecting s out) fresh (afterItems (s .settings) (s .sender) (text (s .connection) (textOf out)))
-  hosted-sender r Nothing = rw (text-none (s .connection))
+  hosted-sender : (r : Reader) (out : Out) → hosted (withReader s r) (s .reader .values) out .state .sender ≡ cond (connecting s out) fresh (afterItems (s .settings) (s .sender) (text (route (s .connection) Host) (textOf out)))
+  hosted-sender r Nothing = rw (text-none (route (s .connection) Host))
   hosted-sender r (One b) = refl
   hosted-sender r (Two b) = refl
-  hosted-sender r (Finished v count) = rw (text-none (s .connection))
+  hosted-sender r (Finished v count) = rw (text-none (route (s .connection) Host))
 
-  lined-sender : (k : Connection) (c : ℕ) → lined k s c .state .sender ≡ s .sender
-  lined-sender (Mode1 port speed) c = refl
-  lined-sender (Mode4 port speed) c = refl
-  lined-sender Mode10 c = refl
-  lined-sender Mode11 c = refl
+  tued-line : (k : Route) (c : ℕ) → tued k s c .line ≡ items (s .settings) (s .sender) (carriedTo k s c)
+  tued-line Dropped c = refl
+  tued-line ToPrinter c = refl
+  tued-line ToHost c = refl
+  tued-line ToTu c = refl
 
-  tued-line : (k : Connection) (c : ℕ) → tued k s c .line ≡ items (s .settings) (s .sender) (carriedTo k s c)
-  tued-line (Mode1 port speed) c = refl
-  tued-line (Mode4 port speed) c = refl
-  tued-line Mode10 c = refl
-  tued-line Mode11 c = refl
-
-  tued-sender : (k : Connection) (c : ℕ) → tued k s c .state .sender ≡ afterItems (s .settings) (s .sender) (carriedTo k s c)
-  tued-sender (Mode1 port speed) c = refl
-  tued-sender (Mode4 port speed) c = refl
-  tued-sender Mode10 c = refl
-  tued-sender Mode11 c = refl
+  tued-sender : (k : Route) (c : ℕ) → tued k s c .state .sender ≡ afterItems (s .settings) (s .sender) (carriedTo k s c)
+  tued-sender Dropped c = refl
+  tued-sender ToPrinter c = refl
+  tued-sender ToHost c = refl
+  tued-sender ToTu c = refl
 
   line-by : (t : Stream) (b : ℕ) → step t s b .line ≡ items (s .settings) (s .sender) (itemsBy t s b)
   line-by Host b = hosted-line (read (s .reader) b .reader) (read (s .reader) b .out)
-  line-by Line b = lined-none (s .connection) s b
-  line-by Tu b = tued-line (s .connection) b
+  line-by Line b = lined-none (route (s .connection) Line) s b
+  line-by Tu b = tued-line (route (s .connection) Tu) b
 
   sender-by : (t : Stream) (b : ℕ) → step t s b .state .sender ≡ cond (connectsBy t s b) fresh (afterBy t b)
   sender-by Host b = hosted-sender (read (s .reader) b .reader) (read (s .reader) b .out)
-  sender-by Line b = lined-sender (s .connection) b
-  sender-by Tu b = tued-sender (s .connection) b
+  sender-by Line b = ap (λ (y : State). y .sender) (lined-touches (route (s .connection) Line) s b)
+  sender-by Tu b = tued-sender (route (s .connection) Tu) b
 
   -- its items go to the line
   pub line-items : (e : Event) → step (e .stream) s (e .byte) .line ≡ items (s .settings) (s .sender) (itemsOf s e)

@@ -3,9 +3,10 @@
 use Prim.Native.Nat.{ℕ}
 use mathlib.Core.Path.{_≡_, refl, sym, ap, _∙_}
 use mathlib.Core.List.{List, [], _∷_, _++_, append-assoc}
+use Rattle.step.specs.Route.{route}
 use Rattle.step.specs.Step.{lined, step, Event, run}
 use Rattle.linebox.specs.Ends.{events}
-use Rattle.demands.specs.Names.{Connection, Mode1, Mode4, Mode10, Mode11, State, Line}
+use Rattle.demands.specs.Names.{Route, Dropped, ToPrinter, ToHost, ToTu, State, Line}
 use Rattle.demands.specs.Lent.{lines}
 
 pub run-append : (s : State) (es fs : List Event) → run s (es ++ fs) ≡ run (run s es) fs
@@ -19,12 +20,12 @@ lines-append s (e ∷ es) fs =
     ap (λ (r : List ℕ). x .line ++ r) (lines-append (x .state) es fs) ∙ sym (append-assoc (x .line) (lines (x .state) es) (lines (run (x .state) es) fs))
 
 -- a line code sends nothing to the line
-pub lined-none : (k : Connection) (s : State) (c : ℕ) → lined k s c .line ≡ []
-lined-none (Mode1 port speed) s c = refl
-lined-none (Mode4 port speed) s c = refl
-lined-none Mode10 s c = refl
-lined-none Mode11 s c = refl
+pub lined-none : (k : Route) (s : State) (c : ℕ) → lined k s c .line ≡ []
+lined-none Dropped s c = refl
+lined-none ToPrinter s c = refl
+lined-none ToHost s c = refl
+lined-none ToTu s c = refl
 
 pub line-none : (s : State) (xs : List ℕ) → lines s (events Line xs) ≡ []
 line-none s [] = refl
-line-none s (x ∷ xs) = rw (lined-none (s .connection) s x) (line-none (step Line s x .state) xs)
+line-none s (x ∷ xs) = rw (lined-none (route (s .connection) Line) s x) (line-none (step Line s x .state) xs)

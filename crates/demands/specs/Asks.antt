@@ -9,7 +9,7 @@ use Rattle.code.specs.Kinds.{kindOf}
 use Rattle.code.specs.Convert.{capital, conversion}
 use Rattle.command.specs.Read.{read, textOf}
 use Rattle.step.specs.Step.{Event}
-use Rattle.demands.specs.Names.{Case, Kind, Still, Space, Return, Shift, Char, Conversion, Connection, Mode1, Mode4, Mode10, Mode11, State, Stream, Host, Line, Tu}
+use Rattle.demands.specs.Names.{Case, Kind, Still, Space, Return, Shift, Char, Conversion, Connection, State, Stream, Host, Line, Tu}
 
 -- Host text.
 
@@ -30,12 +30,9 @@ abbrev pub textBytes : List ℕ → List ℕ
 textBytes [] = []
 textBytes (b ∷ bs) = textByte b ++ textBytes bs
 
--- in mode 1
+-- in mode 1; by the mode itself and not by the box's route, which this is to be held against
 abbrev pub hostAsks : Connection → List ℕ → List ℕ
-hostAsks (Mode1 port speed) bs = textBytes bs
-hostAsks (Mode4 port speed) bs = []
-hostAsks Mode10 bs = []
-hostAsks Mode11 bs = []
+hostAsks k bs = cond (eqb (k .mode) 1) (textBytes bs) []
 
 -- TU codes.
 
@@ -52,10 +49,7 @@ codeIn case c = cond (isShift (kindOf c)) [] (rowAt case c ∷ [])
 
 -- in mode 4, under the incoming reading case
 abbrev pub tuAsks : Connection → Case → ℕ → List ℕ
-tuAsks (Mode1 port speed) case c = []
-tuAsks (Mode4 port speed) case c = codeIn case c
-tuAsks Mode10 case c = []
-tuAsks Mode11 case c = []
+tuAsks k case c = cond (eqb (k .mode) 4) (codeIn case c) []
 
 -- One byte of a stream; nothing else is asked for.
 

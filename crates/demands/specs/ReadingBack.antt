@@ -9,7 +9,7 @@ use Rattle.command.specs.Reads.{made}
 use Rattle.settings.specs.Options.{endings, reports}
 use Rattle.step.specs.Step.{step, Event, run}
 use Rattle.linebox.specs.Ends.{firstsOf}
-use Rattle.demands.specs.Names.{Out, Mode1, State, Stream, Host, Line, Tu}
+use Rattle.demands.specs.Names.{Out, State, Stream, Host, Line, Tu}
 use Rattle.demands.specs.Box.{Box}
 use Rattle.demands.specs.Lent.{lines, Lent, tookAll, sentAll, exchanges}
 use Rattle.demands.specs.Asks.{textBytes}
@@ -54,9 +54,7 @@ AllPlain s (e ∷ es) = Plain s e × AllPlain (step (e .stream) s (e .byte) .sta
 -- with the byte e a mode 1 connection command succeeds
 pub record Joins (s : State) (e : Event) : Type 0 where
   pub connects : connects s e ≡ true
-  pub port : ℕ
-  pub speed : ℕ
-  pub mode1 : step (e .stream) s (e .byte) .state .connection ≡ Mode1 port speed
+  pub mode1 : step (e .stream) s (e .byte) .state .connection .mode ≡ 1
 
 -- Of a state, the bytes taken from it and the codes sent: where the bytes are some, one that joins, then plain ones and any others,
 -- a connection among them too, the codes that the plain ones sent read back as their text.

@@ -13,7 +13,7 @@ use Rattle.command.specs.declared.Verb.the-variants as verb
 use Rattle.command.specs.declared.Form.the-variants as form
 use Rattle.command.specs.declared.Stage.{Stage}
 use Rattle.command.specs.declared.Stage.the-variants.{Held, Text, Fields}
-use Rattle.settings.specs.Table.{soundString, idOf}
+use Rattle.settings.specs.Table.{row, soundString, soundSettings, soundConnection}
 use Rattle.settings.specs.Options.{endings, limit, onspace, onreturn, filter, reports, endingCodes}
 use Rattle.settings.specs.Command.{commanded}
 use Rattle.sender.specs.declared.Known.the-variants.{Is}
@@ -21,6 +21,7 @@ use Rattle.sender.specs.declared.Column.the-variants.{At}
 use Rattle.sender.specs.declared.Last.the-variants as last
 use Rattle.linebox.specs.Names.{Letters, Figures, State, Stream, Host, Line, Tu}
 use Rattle.step.specs.State.{freshBox, sound, withReader, withSender, withIncoming, withStored}
+use Rattle.step.specs.Route.{route}
 use Rattle.step.specs.Step.{step}
 use Rattle.step.specs.Byte.{firstOf, secondOf}
 use Rattle.step.specs.Laws.{mostFirst, mostSecond}
@@ -56,24 +57,24 @@ pub record Reached (t : Stream) (s : State) (b n m : ℕ) : Type 0 where
 
 -- a held `/` and a letter
 pub text : Reached Host (due mode1 shifting Held) 65 (mostFirst Host) 0
-unfolding soundString commanded idOf endings limit onspace onreturn filter endingCodes conversion kindOf rowAt
+unfolding soundString soundSettings soundConnection commanded row route endings limit onspace onreturn filter endingCodes conversion kindOf rowAt
 text = record { sound = refl; first = refl; second = refl }
 
 -- string 90 read
 pub answer : Reached Host (due mode1 wide (Fields verb.Read form.Digits 1)) 13 0 (mostSecond Host)
-unfolding soundString commanded idOf endingCodes digits
+unfolding soundString soundSettings soundConnection commanded row route endingCodes digits
 answer = record { sound = refl; first = refl; second = refl }
 
 -- a figure from the TU
 pub figure : Reached Tu (due mode4 shifting Text) 23 (mostFirst Tu) 0
-unfolding soundString commanded idOf endings limit onspace onreturn filter endingCodes kindOf rowAt
+unfolding soundString soundSettings soundConnection commanded row route endings limit onspace onreturn filter endingCodes kindOf rowAt
 figure = record { sound = refl; first = refl; second = refl }
 
 -- a line code to the host, and one to the TU
 pub to-host : Reached Line (due mode1 wide Text) 3 (mostFirst Line) 0
-unfolding soundString commanded idOf reports endingCodes kindOf rowAt
+unfolding soundString soundSettings soundConnection commanded row route reports endingCodes kindOf rowAt
 to-host = record { sound = refl; first = refl; second = refl }
 
 pub to-tu : Reached Line (due mode4 wide Text) 3 0 (mostSecond Line)
-unfolding soundString commanded idOf endingCodes
+unfolding soundString soundSettings soundConnection commanded row route endingCodes
 to-tu = record { sound = refl; first = refl; second = refl }

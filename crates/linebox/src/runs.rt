@@ -89,7 +89,14 @@ fn run_codes(s: State, codes: &[u8], line: &mut [u8]) -> Ran
     let settings = s.settings;
     let sender = s.sender;
     let case = s.incoming;
-    let x = sender::runs::send(settings, sender, Asks::Codes(case), Until::Above(31), codes, line);
+    let x = sender::runs::send(
+        settings,
+        sender,
+        Asks::Codes(case),
+        Until::Above(31),
+        codes,
+        line,
+    );
     let after = x.sender;
     let asks = x.asks;
     Ran {

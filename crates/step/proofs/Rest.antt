@@ -2,7 +2,7 @@
 -- codes changes no setting.
 -- Assumes nothing.
 use Prim.Native.Nat.{ℕ}
-use mathlib.Core.Path.{_≡_, refl, sym, subst}
+use mathlib.Core.Path.{_≡_, refl, sym, ap, subst}
 use mathlib.Core.Bool.{Bool, true, false, cond}
 use mathlib.Core.List.{List, [], _∷_}
 use Rattle.command.specs.Read.{read}
@@ -13,6 +13,7 @@ use Rattle.step.specs.Route.{route}
 use Rattle.step.specs.State.{freshBox, withReader, withStored}
 use Rattle.step.specs.Step.{hosted, lined, tued, step, Event, run}
 use Rattle.step.specs.Laws.{Rested}
+use Rattle.step.proofs.Ways.{lined-touches, tued-touches}
 
 -- Letters at rest.
 
@@ -63,21 +64,8 @@ hosted-keep s fields (One b) n = refl
 hosted-keep s fields (Two b) n = refl
 hosted-keep s fields (Finished v count) n = absurd (n refl)
 
--- no line code or TU code is a command
-lined-keep : (k : Route) (s : State) (c : ℕ) → lined k s c .state .settings ≡ s .settings
-lined-keep Dropped s c = refl
-lined-keep ToPrinter s c = refl
-lined-keep ToHost s c = refl
-lined-keep ToTu s c = refl
-
-tued-keep : (k : Route) (s : State) (c : ℕ) → tued k s c .state .settings ≡ s .settings
-tued-keep Dropped s c = refl
-tued-keep ToPrinter s c = refl
-tued-keep ToHost s c = refl
-tued-keep ToTu s c = refl
-
 -- a byte that sends line codes changes no setting
 pub sends-keep : (t : Stream) (s : State) (b : ℕ) → (step t s b .line ≡ [] → ⊥) → step t s b .state .settings ≡ s .settings
 sends-keep Host s b n = hosted-keep (withReader s (read (s .reader) b .reader)) (s .reader .values) (read (s .reader) b .out) n
-sends-keep Line s b n = lined-keep (route (s .connection) Line) s b
-sends-keep Tu s b n = tued-keep (route (s .connection) Tu) s b
+sends-keep Line s b n = ap (λ (x : State). x .settings) (lined-touches (route (s .connection) Line) s b)
+sends-keep Tu s b n = ap (λ (x : State). x .settings) (tued-touches (route (s .connection) Tu) s b)

@@ -12,11 +12,12 @@ use Rattle.command.specs.Read.{read, soundStage}
 use Rattle.command.proofs.Leads.{sound-read, eleven-read}
 use Rattle.settings.specs.Table.{row, soundSettings, soundConnection}
 use Rattle.settings.proofs.Written.{stays, factory-sound}
-use Rattle.step.specs.Names.{Route, Dropped, ToPrinter, ToHost, ToTu, Out, Nothing, One, Two, Finished, State, Stream, Host, Line, Tu}
+use Rattle.step.specs.Names.{Out, Nothing, One, Two, Finished, State, Stream, Host, Line, Tu}
 use Rattle.step.specs.Route.{route}
 use Rattle.step.specs.State.{soundReader, sound, freshBox, withReader}
-use Rattle.step.specs.Step.{hosted, lined, tued, step, Event, run}
+use Rattle.step.specs.Step.{hosted, step, Event, run}
 use Rattle.step.specs.Laws.{Parts}
+use Rattle.step.proofs.Ways.{lined-touches, tued-touches}
 
 -- the tests of a sound state, one by one
 pub sound-parts : (s : State) → sound s ≡ true → Parts s
@@ -43,25 +44,13 @@ hosted-parts s fields (One b) l p = record { held = p .held; stage = p .stage; e
 hosted-parts s fields (Two b) l p = record { held = p .held; stage = p .stage; eleven = p .eleven }
 hosted-parts s fields (Finished v count) l p = record { held = stays (s .settings) (s .connection) (p .held) v count fields l; stage = p .stage; eleven = p .eleven }
 
-lined-parts : (k : Route) (s : State) (c : ℕ) → Parts s → Parts (lined k s c .state)
-lined-parts Dropped s c p = p
-lined-parts ToPrinter s c p = p
-lined-parts ToHost s c p = record { held = p .held; stage = p .stage; eleven = p .eleven }
-lined-parts ToTu s c p = p
-
-tued-parts : (k : Route) (s : State) (c : ℕ) → Parts s → Parts (tued k s c .state)
-tued-parts Dropped s c p = p
-tued-parts ToPrinter s c p = record { held = p .held; stage = p .stage; eleven = p .eleven }
-tued-parts ToHost s c p = p
-tued-parts ToTu s c p = p
-
 pub step-parts : (t : Stream) (s : State) (b : ℕ) → Parts s → Parts (step t s b .state)
 step-parts Host s b p =
     let r = read (s .reader) b .reader in
     hosted-parts (withReader s r) (s .reader .values) (read (s .reader) b .out) (p .eleven)
     (record { held = p .held; stage = sound-read (s .reader) b (p .stage); eleven = eleven-read (s .reader) b (p .eleven) })
-step-parts Line s b p = lined-parts (route (s .connection) Line) s b p
-step-parts Tu s b p = tued-parts (route (s .connection) Tu) s b p
+step-parts Line s b p = rw (lined-touches (route (s .connection) Line) s b) (record { held = p .held; stage = p .stage; eleven = p .eleven })
+step-parts Tu s b p = rw (tued-touches (route (s .connection) Tu) s b) (record { held = p .held; stage = p .stage; eleven = p .eleven })
 
 -- a sound state stays sound
 pub sound-step : (t : Stream) (s : State) (b : ℕ) → sound s ≡ true → sound (step t s b .state) ≡ true

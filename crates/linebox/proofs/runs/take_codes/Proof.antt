@@ -11,7 +11,7 @@ prints-requires : tie.Need-prints-requires
 prints-requires c κs = search needs
 
 run-codes-requires : tie.Need-run-codes-requires
-run-codes-requires c κs = search needs
+run-codes-requires c κs = ?
 
 same-length : tie.Need-same-length
 same-length c = search needs
@@ -24,7 +24,7 @@ unmoved-requires c κs = search needs
 
 returns-2 : tie.Need-returns-2
 returns-2 c =
-    let b = c .before .before .before .before .before in
+    let b = c .before .before .before .before .before .before in
     rw (c .unmoved .ensures) (unmoved Tu (b .args .s) (now (b .args .codes)) (now (b .args .line)) (b .pre))
 
 pub take-codes-spec : {M : Type 1} → statement M

@@ -14,7 +14,7 @@ is-text-requires : tie.Need-is-text-requires
 is-text-requires c κs = search needs
 
 run-text-requires : tie.Need-run-text-requires
-run-text-requires c κs = search needs
+run-text-requires c κs = ?
 
 same-length : tie.Need-same-length
 same-length c = search needs
@@ -27,7 +27,7 @@ unmoved-requires c κs = search needs
 
 returns-2 : tie.Need-returns-2
 returns-2 c =
-    let b = c .before .before .before .before .before .before in
+    let b = c .before .before .before .before .before .before .before in
     rw (c .unmoved .ensures) (unmoved Host (b .args .s) (now (b .args .input)) (now (b .args .line)) (b .pre))
 
 pub take-text-spec : {M : Type 1} → statement M
