@@ -2,49 +2,39 @@
 -- Assumes nothing.
 use Prim.Native.Nat.{ℕ, _+_, _-_, _≤_, _<_}
 use mathlib.Core.Path.{_≡_, refl, sym, ap, _∙_}
-use mathlib.Core.Bool.{Bool, true, false}
+use mathlib.Core.Bool.{true}
 use mathlib.Core.List.{List, [], _∷_, _++_, append-nil}
 use native.Mathlib.Omega.{arith}
 use borrow.Author.Tests.{le-leb, lt-leb}
 use lib.ListN.{length, length-append}
-use Rattle.code.specs.Convert.{conversion}
 use Rattle.sender.specs.declared.Item.{Item}
 use Rattle.sender.specs.declared.Sent.{Sent}
-use Rattle.sender.specs.Item.{items, afterItems, wanted, wantedOf}
+use Rattle.sender.specs.Item.{items, afterItems, wanted, wantedBy, wantedText}
 use Rattle.sender.specs.Sends.{counted, Run, sends as codesSent, Sends}
-use Rattle.sender.proofs.Few.{wanted-few}
-use Rattle.sender.proofs.Sends.{items-append, after-append}
+use Rattle.sender.proofs.Sends.{items-append}
 use Rattle.step.specs.Names.{Case, Settings, Wanted, Sender, Text, Codes, Never, State}
 use Rattle.step.specs.State.{withSender}
-use Rattle.step.specs.Step.{sends, asked, released}
+use Rattle.step.specs.Step.{sends}
 use Rattle.step.specs.Byte.{Puts, noRoom}
 
 module _ (o : Settings) where
   -- host text
-  pub text-sent : (s : Sender) (bs : List ℕ) (room : ℕ) → length (items o s (asked bs)) ≤ room
-      → codesSent o s Text Never bs room .codes ≡ items o s (asked bs)
+  pub text-sent : (s : Sender) (bs : List ℕ) (room : ℕ) → length (items o s (wantedText bs)) ≤ room
+      → codesSent o s Text Never bs room .codes ≡ items o s (wantedText bs)
   text-sent s [] room h = refl
   text-sent s (b ∷ bs) room h =
-      let ws = wantedOf (conversion b) in
+      let ws = wantedBy Text b in
       let cs = items o s ws in
-      let more = items o (afterItems o s ws) (asked bs) in
-      let l : length (items o s (ws ++ asked bs)) ≡ length cs + length more = ap length (items-append o s ws (asked bs)) ∙ length-append cs more in
+      let more = items o (afterItems o s ws) (wantedText bs) in
+      let l : length (items o s (ws ++ wantedText bs)) ≡ length cs + length more = ap length (items-append o s ws (wantedText bs)) ∙ length-append cs more in
       let u : length cs ≤ room = omega (arith, h, l) in
       let v : length more ≤ room - length cs = omega (arith, h, l) in
-      rw (le-leb (length cs) room u, text-sent (afterItems o s ws) bs (room - length cs) v, items-append o s ws (asked bs))
+      rw (le-leb (length cs) room u, text-sent (afterItems o s ws) bs (room - length cs) v, items-append o s ws (wantedText bs))
 
   -- one TU code
   pub code-sent : (s : Sender) (case : Case) (c room : ℕ) → length (items o s (wanted case c ∷ [])) ≤ room
       → codesSent o s (Codes case) Never (c ∷ []) room .codes ≡ items o s (wanted case c ∷ [])
   code-sent s case c room h = rw (le-leb (length (items o s (wanted case c ∷ []))) room h, append-nil (items o s (wanted case c ∷ [])))
-
-  -- two bytes counted one after the other
-  pub text-counted : (s : Sender) (b c : ℕ) (x y : Item) → x ≡ counted o s (wantedOf (conversion b)) → y ≡ counted o (x .sender) (wantedOf (conversion c))
-      → record { sender = y .sender; count = x .count + y .count } ≡ counted o s (asked (b ∷ c ∷ []))
-  text-counted s b c x y e f =
-      let ws = wantedOf (conversion b) in
-      let vs = wantedOf (conversion c) in
-      rw (f, e, append-nil vs, items-append o s ws vs, after-append o s ws vs, length-append (items o s ws) (items o (afterItems o s ws) vs))
 
 -- what does not fit
 pub unfit : (t : State) (new old : List ℕ) → length old < length new → Puts t new old old (noRoom t)
@@ -67,8 +57,3 @@ module _ (s : State) (ws : List Wanted) (x : Item) (e : x ≡ counted (s .settin
       let u : length (sends s ws .line) ≤ length old = omega (arith, h, counts) in
       let q = rw (same u) at (p .places) in
       record { fits = rw (le-leb (length (sends s ws .line)) (length old) u); state = after; count = q .count; places = q .places }
-
--- at most two items
-pub asked-few : (slash : Bool) (b : ℕ) → length (asked (released slash b)) ≤ 2
-asked-few false b = rw append-nil (omega (arith, wanted-few (conversion b)))
-asked-few true b = rw (append-nil, length-append) (omega (arith, wanted-few (conversion 47), wanted-few (conversion b)))

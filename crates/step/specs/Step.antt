@@ -1,16 +1,15 @@
 -- What one byte of each stream does: the state after it, and what goes to the line, to the host and to the TU.
 use Prim.Native.Nat.{ℕ}
 use mathlib.Core.Bool.{Bool, true, false, cond}
-use mathlib.Core.List.{List, [], _∷_, _++_}
+use mathlib.Core.List.{List, [], _∷_}
 use lib.ListN.{take}
 use Rattle.code.specs.Rows.{rowAt}
 use Rattle.code.specs.Kinds.{kindOf}
-use Rattle.code.specs.Convert.{conversion}
 use Rattle.message.specs.Message.{framed}
 use Rattle.command.specs.Read.{read, textOf}
 use Rattle.settings.specs.Command.{commanded}
 use Rattle.settings.specs.Options.{reports}
-use Rattle.sender.specs.Item.{items, afterItems, wanted, wantedOf, incoming}
+use Rattle.sender.specs.Item.{items, afterItems, wanted, wantedText, incoming}
 use Rattle.step.specs.Names.{Asks, Text, Codes, Case, Letters, Kind, Still, Space, Return, Shift, Char, Reader, Out, Nothing, One, Two, Finished, Route, Dropped, ToPrinter, ToHost, ToTu, Outcome, Wanted, State, Stream, Host, Line, Tu}
 use Rattle.step.specs.Route.{route}
 use Rattle.step.specs.State.{withReader, withSender, withReading, withIncoming, withStored}
@@ -31,22 +30,16 @@ sends s ws = record { state = withSender s (afterItems (s .settings) (s .sender)
 
 -- Host bytes.
 
--- what text asks for
-abbrev pub asked : List ℕ → List Wanted
-asked [] = []
-asked (b ∷ bs) = wantedOf (conversion b) ++ asked bs
-
 -- host text on its route: to the printer, or dropped
 abbrev pub text : Route → List ℕ → List Wanted
 text Dropped bs = []
-text ToPrinter bs = asked bs
+text ToPrinter bs = wantedText bs
 text ToHost bs = []
 text ToTu bs = []
 
--- a text byte, and before it the `/` where that was held
-abbrev pub released : Bool → ℕ → List ℕ
-released true b = 47 ∷ b ∷ []
-released false b = b ∷ []
+-- the text that the command reader made of a byte
+abbrev pub texted : State → Out → Step
+texted s out = sends s (text (route (s .connection) Host) (textOf out))
 
 -- commands work in every mode; the answer goes to the host
 abbrev pub obeys : State → Outcome → Step
@@ -55,8 +48,8 @@ obeys s o = record { state = withStored s (o .stored); line = []; host = framed 
 -- what the command reader made of the byte; a finished command's fields stand in the reader before it
 abbrev pub hosted : State → List ℕ → Out → Step
 hosted s fields Nothing = quiet s
-hosted s fields (One b) = sends s (text (route (s .connection) Host) (released false b))
-hosted s fields (Two b) = sends s (text (route (s .connection) Host) (released true b))
+hosted s fields (One b) = texted s (One b)
+hosted s fields (Two b) = texted s (Two b)
 hosted s fields (Finished v count) = obeys s (commanded (s .settings) (s .connection) v count fields)
 
 abbrev pub hostStep : State → ℕ → Step

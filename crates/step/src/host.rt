@@ -30,8 +30,14 @@ pub fn put_read(s: State, x: Step, line: &mut [u8], host: &mut [u8]) -> Taken
     let t = with_reader(s, next);
     match out {
         Out::Nothing => in_first(none(t)),
-        Out::One(y) => in_first(put_text(t, false, y, line)),
-        Out::Two(y) => in_first(put_text(t, true, y, line)),
+        Out::One(y) => {
+            let one = [y];
+            in_first(put_text(t, &one, line))
+        }
+        Out::Two(y) => {
+            let two = [b'/', y];
+            in_first(put_text(t, &two, line))
+        }
         Out::Finished(v, n) => in_second(put_answer(t, v, n, fields, host)),
     }
 }

@@ -1,12 +1,12 @@
 // A byte's codes to the line, into the free part of the buffer itself: counted first, and sent where all of them fit.
 ghost use mathlib.Core.Path.{_≡_};
+ghost use Prim.Native.Nat.{_≤_};
 ghost use lib.ListN.{length};
-ghost use Rattle.sender.specs.Sends.{counted, sends as codesSent, Sends};
-ghost use Rattle.step.specs.Names.{Host as Names·Host, Text as Names·Text, Never as Names·Never};
+ghost use Rattle.sender.specs.Item.{wantedText};
+ghost use Rattle.step.specs.Names.{Host as Names·Host};
 ghost use Rattle.step.specs.Route.{route};
-ghost use Rattle.step.specs.Step.{sends, asked, text, released, carried, caseOf, tuStep};
+ghost use Rattle.step.specs.Step.{sends, text, carried, caseOf, tuStep};
 ghost use Rattle.step.specs.Byte.{Puts};
-ghost use Rattle.step.specs.Step.{caseOf};
 use crate::Route;
 use crate::State;
 use crate::Stream;
@@ -18,58 +18,24 @@ use crate::states::with_incoming;
 use crate::states::with_sender;
 use code::Case;
 use sender::Asks;
-use sender::Item;
-use sender::Sender;
-use sender::Sent;
 use sender::Until;
-use settings::Settings;
 
-// How many codes text is, and the sender after it: the byte, and before it the `/` where that was held.
-fn count_text(o: Settings, s: Sender, slash: bool, b: u8) -> Item
-    ensures { λ r. ⌜ r ≡ counted o s (asked (released slash b)) ⌝ }
-{
-    if slash {
-        let x = sender::runs::count(o, s, Asks::Text, b'/');
-        let between = x.sender;
-        let y = sender::runs::count(o, between, Asks::Text, b);
-        let after = y.sender;
-        return Item {
-            sender: after,
-            count: x.count + y.count,
-        };
-    }
-    sender::runs::count(o, s, Asks::Text, b)
-}
-
-// Text sent: the byte, and before it the `/` where that was held.
-fn send_text(o: Settings, s: Sender, slash: bool, b: u8, out: &mut [u8]) -> Sent
+// Text to the printer: a byte, and before it the `/` where that was held.
+fn put_items(s: State, bytes: &[u8], out: &mut [u8]) -> Took
+    requires { ⌜ length (now bytes) ≤ 2 ⌝ }
     ensures { λ r. ⌜
-        Sends (codesSent o s Names·Text Names·Never (released slash b) (length (now (out .entry)))) (now (out .entry)) (now (out .exit)) r
-        ⌝ }
-{
-    let text = [b'/', b];
-    if slash {
-        sender::runs::send(o, s, Asks::Text, Until::Never, &text, out)
-    } else {
-        sender::runs::send(o, s, Asks::Text, Until::Never, &text[1..], out)
-    }
-}
-
-// Text to the printer.
-fn put_items(s: State, slash: bool, b: u8, out: &mut [u8]) -> Took
-    ensures { λ r. ⌜
-        Puts (sends s (asked (released slash b)) .state) (sends s (asked (released slash b)) .line) (now (out .entry)) (now (out .exit)) r
+        Puts (sends s (wantedText (now (bytes .entry))) .state) (sends s (wantedText (now (bytes .entry))) .line) (now (out .entry)) (now (out .exit)) r
         ⌝ }
 {
     let settings = s.settings;
     let sender = s.sender;
-    let x = count_text(settings, sender, slash, b);
+    let x = sender::runs::count_text(settings, sender, bytes);
     let after = x.sender;
     let next = with_sender(s, after);
     if out.len() < x.count {
         return no_room(next);
     }
-    let y = send_text(settings, sender, slash, b, out);
+    let y = sender::runs::send(settings, sender, Asks::Text, Until::Never, bytes, out);
     Took {
         fits: true,
         state: next,
@@ -78,15 +44,16 @@ fn put_items(s: State, slash: bool, b: u8, out: &mut [u8]) -> Took
 }
 
 // Text to the printer, where that is its route; otherwise it is dropped.
-pub fn put_text(s: State, slash: bool, b: u8, out: &mut [u8]) -> Took
+pub fn put_text(s: State, bytes: &[u8], out: &mut [u8]) -> Took
+    requires { ⌜ length (now bytes) ≤ 2 ⌝ }
     ensures { λ r. ⌜
-        Puts (sends s (text (route (s .connection) Names·Host) (released slash b)) .state) (sends s (text (route (s .connection) Names·Host) (released slash b)) .line) (now (out .entry)) (now (out .exit)) r
+        Puts (sends s (text (route (s .connection) Names·Host) (now (bytes .entry))) .state) (sends s (text (route (s .connection) Names·Host) (now (bytes .entry))) .line) (now (out .entry)) (now (out .exit)) r
         ⌝ }
 {
     let connection = s.connection;
     match route(connection, Stream::Host) {
         Route::Dropped => none(s),
-        Route::ToPrinter => put_items(s, slash, b, out),
+        Route::ToPrinter => put_items(s, bytes, out),
         Route::ToHost => none(s),
         Route::ToTu => none(s),
     }

@@ -24,6 +24,9 @@ in-first-requires c κs = search needs
 enum-known-out : tie.Need-enum-known-out
 enum-known-out c = search needs
 
+slice-aggregate-put-text : tie.Need-slice-aggregate-put-text
+slice-aggregate-put-text c = search needs
+
 put-text-requires : tie.Need-put-text-requires
 put-text-requires c κs = search needs
 
@@ -32,6 +35,9 @@ in-first-requires-2 c κs = search needs
 
 enum-known-out-2 : tie.Need-enum-known-out-2
 enum-known-out-2 c = search needs
+
+slice-aggregate-put-text-2 : tie.Need-slice-aggregate-put-text-2
+slice-aggregate-put-text-2 c = search needs
 
 put-text-requires-2 : tie.Need-put-text-requires-2
 put-text-requires-2 c κs = search needs
@@ -62,9 +68,9 @@ same-length c = search needs
 
 returns-2 : tie.Need-returns-2
 returns-2 c =
-    let d = c .before .before .before .before .before .before .before .before in
+    let d = c .before .before .before .before .before .before .before .before .before in
     let a = d .before .before .before .before .before .before .args in
-    rw (host-as (a .s) (a .x) _ _ (d .with-reader .ensures) (c .before .before .before .before .before .before .out .given .1), c .in-first2 .ensures)
+    rw (host-as (a .s) (a .x) _ _ (d .with-reader .ensures) (c .before .before .before .before .before .before .before .out .given .1), c .in-first2 .ensures)
     (offers-first Host _ _ (now (a .line)) (now (a .host)) _ refl (c .before .before .before .put-text .ensures))
 
 same-length-2 : tie.Need-same-length-2
@@ -72,9 +78,9 @@ same-length-2 c = search needs
 
 returns-3 : tie.Need-returns-3
 returns-3 c =
-    let d = c .before .before .before .before .before .before .before .before in
+    let d = c .before .before .before .before .before .before .before .before .before in
     let a = d .before .before .before .before .before .before .args in
-    rw (host-as (a .s) (a .x) _ _ (d .with-reader .ensures) (c .before .before .before .before .before .before .out2 .given .1), c .in-first3 .ensures)
+    rw (host-as (a .s) (a .x) _ _ (d .with-reader .ensures) (c .before .before .before .before .before .before .before .out2 .given .1), c .in-first3 .ensures)
     (offers-first Host _ _ (now (a .line)) (now (a .host)) _ refl (c .before .before .before .put-text2 .ensures))
 
 same-length-3 : tie.Need-same-length-3
@@ -96,9 +102,11 @@ put-read-spec =
     none-requires
     in-first-requires
     enum-known-out
+    slice-aggregate-put-text
     put-text-requires
     in-first-requires-2
     enum-known-out-2
+    slice-aggregate-put-text-2
     put-text-requires-2
     in-first-requires-3
     enum-known-out-3

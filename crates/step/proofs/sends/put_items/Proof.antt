@@ -1,7 +1,7 @@
 -- `step::sends::put_items` meets its contract: all of the codes are counted, and sent where so many places are free.
 -- Assumes nothing.
 use denote.Ref.{now}
-use Rattle.step.specs.Step.{asked, released}
+use Rattle.sender.specs.Item.{wantedText}
 use Rattle.step.proofs.Sent.{text-sent, held-back, put}
 use borrow.Author.Needs.{needs}
 use Rattle.step.proofs.sends.put_items.Statement.{statement}
@@ -21,11 +21,11 @@ returns c =
     let i = c .before in
     let w = i .before .before in
     let x = w .before .before in
-    let a = x .before .before .before .before .args in
-    rw (c .no-room .ensures) (held-back (a .s) (asked (released (a .slash) (a .b))) (x .count-text .result) (x .count-text .ensures) _ (w .with-sender .ensures) (now (a .out)) (i .if1 .taken))
+    let a = x .before .before .before .before .before .args in
+    rw (c .no-room .ensures) (held-back (a .s) (wantedText (now (a .bytes))) (x .count-text .result) (x .count-text .ensures) _ (w .with-sender .ensures) (now (a .out)) (i .if1 .taken))
 
-send-text-requires : tie.Need-send-text-requires
-send-text-requires c κs = search needs
+send-requires : tie.Need-send-requires
+send-requires c κs = search needs
 
 same-length : tie.Need-same-length
 same-length c = search needs
@@ -36,8 +36,8 @@ returns-2 c =
     let i = y .before .before in
     let w = i .before .before in
     let x = w .before .before in
-    let a = x .before .before .before .before .args in
-    put (a .s) (asked (released (a .slash) (a .b))) (x .count-text .result) (x .count-text .ensures) _ (w .with-sender .ensures) (now (a .out)) _ _ (y .send-text .result) (i .if1 .left) (text-sent (a .s .settings) (a .s .sender) (released (a .slash) (a .b)) _) (y .send-text .ensures)
+    let a = x .before .before .before .before .before .args in
+    put (a .s) (wantedText (now (a .bytes))) (x .count-text .result) (x .count-text .ensures) _ (w .with-sender .ensures) (now (a .out)) _ _ (y .send .result) (i .if1 .left) (text-sent (a .s .settings) (a .s .sender) (now (a .bytes)) _) (y .send .ensures)
 
 pub put-items-spec : {M : Type 1} → statement M
 put-items-spec =
@@ -47,6 +47,6 @@ put-items-spec =
     with-sender-requires
     no-room-requires
     returns
-    send-text-requires
+    send-requires
     same-length
     returns-2)

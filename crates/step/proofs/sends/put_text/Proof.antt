@@ -3,7 +3,6 @@
 use borrow.Author.Needs.{needs}
 use mathlib.Core.Path.{sym, _∙_}
 use denote.Ref.{now}
-use Rattle.step.specs.Step.{released}
 use Rattle.step.proofs.Bytes.{puts-none}
 use Rattle.step.proofs.Ways.{text-as}
 use Rattle.step.proofs.sends.put_text.Statement.{statement}
@@ -38,8 +37,8 @@ none-requires-3 c κs = search needs
 
 returns : tie.Need-returns
 returns c =
-    let a = c .before .before .before .before .before .before .args in
-    rw (text-as (a .s) (released (a .slash) (a .b)) _ (sym (c .before .before .before .route .ensures) ∙ c .before .enum-told .given .1), c .none .ensures) (puts-none _ (now (a .out)))
+    let a = c .before .before .before .before .before .before .before .args in
+    rw (text-as (a .s) (now (a .bytes)) _ (sym (c .before .before .before .route .ensures) ∙ c .before .enum-told .given .1), c .none .ensures) (puts-none _ (now (a .out)))
 
 same-length : tie.Need-same-length
 same-length c = search needs
@@ -47,18 +46,18 @@ same-length c = search needs
 returns-2 : tie.Need-returns-2
 returns-2 c =
     let e = c .before .before .before .before in
-    let a = e .before .before .before .before .before .args in
-    rw (text-as (a .s) (released (a .slash) (a .b)) _ (sym (e .before .before .route .ensures) ∙ e .enum-told2 .given .1)) (c .before .before .put-items .ensures)
+    let a = e .before .before .before .before .before .before .args in
+    rw (text-as (a .s) (now (a .bytes)) _ (sym (e .before .before .route .ensures) ∙ e .enum-told2 .given .1)) (c .before .before .put-items .ensures)
 
 returns-3 : tie.Need-returns-3
 returns-3 c =
-    let a = c .before .before .before .before .before .before .args in
-    rw (text-as (a .s) (released (a .slash) (a .b)) _ (sym (c .before .before .before .route .ensures) ∙ c .before .enum-told3 .given .1), c .none2 .ensures) (puts-none _ (now (a .out)))
+    let a = c .before .before .before .before .before .before .before .args in
+    rw (text-as (a .s) (now (a .bytes)) _ (sym (c .before .before .before .route .ensures) ∙ c .before .enum-told3 .given .1), c .none2 .ensures) (puts-none _ (now (a .out)))
 
 returns-4 : tie.Need-returns-4
 returns-4 c =
-    let a = c .before .before .before .before .before .before .args in
-    rw (text-as (a .s) (released (a .slash) (a .b)) _ (sym (c .before .before .before .route .ensures) ∙ c .before .enum-told4 .given .1), c .none3 .ensures) (puts-none _ (now (a .out)))
+    let a = c .before .before .before .before .before .before .before .args in
+    rw (text-as (a .s) (now (a .bytes)) _ (sym (c .before .before .before .route .ensures) ∙ c .before .enum-told4 .given .1), c .none3 .ensures) (puts-none _ (now (a .out)))
 
 pub put-text-spec : {M : Type 1} → statement M
 put-text-spec =
