@@ -14,13 +14,12 @@ use Rattle.command.specs.declared.Stage.{Stage}
 use Rattle.command.specs.declared.Stage.the-variants as stage
 use Rattle.command.specs.Read.{read, readAt, afresh, at, idle}
 use Rattle.code.specs.Kinds.{kindOf}
-use Rattle.code.specs.Convert.{conversion}
-use Rattle.sender.specs.Item.{items, afterItems, wanted, wantedOf, incoming}
-use Rattle.sender.specs.Sends.{converted, asksNext, stopsAt, Run, sends, Sends}
+use Rattle.sender.specs.Item.{items, wantedBy, wantedText}
+use Rattle.sender.specs.Sends.{asksNext, stopsAt, Run, sends, Sends}
 use Rattle.sender.specs.declared.Sent.{Sent}
 use Rattle.linebox.specs.Names.{Case, Route, Dropped, ToPrinter, ToHost, ToTu, Settings, Sender, Asks, Text, Codes, Byte, Above, One, State, Stream, Host, Tu, Ran}
 use Rattle.step.specs.State.{sound, withReader, withSender, withIncoming}
-use Rattle.step.specs.Step.{Step, sends as sent, asked, text, released, hosted, hostStep, tued, tuStep, carried, step}
+use Rattle.step.specs.Step.{Step, sends as sent, text, hosted, hostStep, tued, tuStep, carried, step}
 use Rattle.linebox.specs.Call.{firstOf, secondOf, refuses, fits, Done, before, taking}
 use Rattle.linebox.specs.Plain.{isText}
 use Rattle.step.specs.Step.{caseOf}
@@ -53,7 +52,7 @@ unmoved t s input old ok = record { new = []; within = omega arith; kept = ok; p
 
 -- Text.
 
-open-text : (k : Route) (bs : List ℕ) → isPrinter k ≡ true → text k bs ≡ asked bs
+open-text : (k : Route) (bs : List ℕ) → isPrinter k ≡ true → text k bs ≡ wantedText bs
 open-text Dropped bs h = absurd (false≢true h)
 open-text ToPrinter bs h = refl
 open-text ToHost bs h = absurd (false≢true h)
@@ -79,7 +78,7 @@ texting-sound s x ok =
     let p = sound-parts s ok in
     parts-sound (texting s x) (record { held = p .held; stage = refl; eleven = refl })
 
-text-step : (s : State) (b : ℕ) → isPrinter (route (s .connection) Host) ≡ true → isText (s .reader .stage) ≡ true → eqb b 47 ≡ false → hostStep s b ≡ sent (withReader s idle) (wantedOf (conversion b))
+text-step : (s : State) (b : ℕ) → isPrinter (route (s .connection) Host) ≡ true → isText (s .reader .stage) ≡ true → eqb b 47 ≡ false → hostStep s b ≡ sent (withReader s idle) (wantedBy Text b)
 text-step s b m h e = rw (reads-text (s .reader .stage) (s .reader .values) b h e, open-text (route (s .connection) Host) (b ∷ []) m, append-nil)
 
 plain-text : (s : State) → isPrinter (route (s .connection) Host) ≡ true → (x : Sender) (a : Asks) (b : ℕ) → asText a ≡ true → stopsAt (Byte 47) b ≡ false → Plain Host (s .settings) (λ y z. texting s y) x a b
@@ -92,9 +91,9 @@ plain-text s m x (Codes case) b h e = absurd (false≢true h)
 first-same : (s : State) (xs : List ℕ) (room more : ℕ) → isPrinter (route (s .connection) Host) ≡ true → isText (s .reader .stage) ≡ true
     → (sends (s .settings) (s .sender) Text (Byte 47) xs room .taken ≡ 0 → ⊥) → taking Host s xs room more ≡ taking Host (texting s (s .sender)) xs room more
 first-same s [] room more m h n = absurd (n refl)
-first-same s (b ∷ xs) room more m h n = go (eqb b 47) refl (leb (length (items (s .settings) (s .sender) (wantedOf (conversion b)))) room) refl n
+first-same s (b ∷ xs) room more m h n = go (eqb b 47) refl (leb (length (items (s .settings) (s .sender) (wantedBy Text b))) room) refl n
   where
-    go : (z : Bool) → eqb b 47 ≡ z → (fit : Bool) → leb (length (items (s .settings) (s .sender) (wantedOf (conversion b)))) room ≡ fit → (sends (s .settings) (s .sender) Text (Byte 47) (b ∷ xs) room .taken ≡ 0 → ⊥)
+    go : (z : Bool) → eqb b 47 ≡ z → (fit : Bool) → leb (length (items (s .settings) (s .sender) (wantedBy Text b))) room ≡ fit → (sends (s .settings) (s .sender) Text (Byte 47) (b ∷ xs) room .taken ≡ 0 → ⊥)
         → taking Host s (b ∷ xs) room more ≡ taking Host (texting s (s .sender)) (b ∷ xs) room more
     go true e fit f n = absurd (n (rw e))
     go false e false f n = absurd (n (rw (e, f)))

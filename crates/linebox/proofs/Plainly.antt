@@ -8,8 +8,8 @@ use native.Mathlib.Omega.{arith}
 use native.Mathlib.Nat.{zero-add, sub-zero}
 use lib.Dec.{leb, leb·zero}
 use lib.ListN.{length, drop, length-append}
-use Rattle.sender.specs.Item.{items, afterItems, wantedOf}
-use Rattle.sender.specs.Sends.{converted, asksNext, stopsAt, Run, sends}
+use Rattle.sender.specs.Item.{items, afterItems, wantedBy}
+use Rattle.sender.specs.Sends.{asksNext, stopsAt, Run, sends}
 use Rattle.linebox.specs.Names.{Settings, Sender, Asks, Until, State, Stream}
 use Rattle.step.specs.Step.{Step, step}
 use Rattle.linebox.specs.Call.{firstOf, secondOf, refuses, fits, Done, onward, before, taking}
@@ -17,8 +17,8 @@ use Rattle.linebox.specs.Call.{firstOf, secondOf, refuses, fits, Done, o
 -- a byte that is taken as its items go out, and writes to the first buffer alone
 pub record Plain (t : Stream) (o : Settings) (st : Sender → Asks → State) (x : Sender) (a : Asks) (b : ℕ) : Type 0 where
   pub is-taken : refuses t (st x a) b ≡ false
-  pub state : step t (st x a) b .state ≡ st (afterItems o x (wantedOf (converted a b))) (asksNext o a b)
-  pub first : firstOf t (step t (st x a) b) ≡ items o x (wantedOf (converted a b))
+  pub state : step t (st x a) b .state ≡ st (afterItems o x (wantedBy a b)) (asksNext o a b)
+  pub first : firstOf t (step t (st x a) b) ≡ items o x (wantedBy a b)
   pub second : secondOf t (step t (st x a) b) ≡ []
 
 -- one byte's codes before what stands before the rest
@@ -36,21 +36,21 @@ module _ (t : Stream) (o : Settings) (st : Sender → Asks → State) where
   none-stand x a xs room more = rw (sub-zero room, zero-add)
 
   -- a byte fits exactly if its codes do
-  pub one-fits : (x : Sender) (a : Asks) (b : ℕ) (room more : ℕ) → Plain t o st x a b → fits t (step t (st x a) b) room more ≡ leb (length (items o x (wantedOf (converted a b)))) room
+  pub one-fits : (x : Sender) (a : Asks) (b : ℕ) (room more : ℕ) → Plain t o st x a b → fits t (step t (st x a) b) room more ≡ leb (length (items o x (wantedBy a b))) room
   one-fits x a b room more p = rw (p .first, p .second, leb·zero, and-true)
 
   one-more : (until : Until) (x : Sender) (a : Asks) (b : ℕ) (xs : List ℕ) (room more : ℕ) → (stopsAt until b ≡ false → Plain t o st x a b)
-      → (let y = afterItems o x (wantedOf (converted a b)) in let r = room - length (items o x (wantedOf (converted a b))) in Stands y (asksNext o a b) xs r more (sends o y (asksNext o a b) until xs r))
+      → (let y = afterItems o x (wantedBy a b) in let r = room - length (items o x (wantedBy a b)) in Stands y (asksNext o a b) xs r more (sends o y (asksNext o a b) until xs r))
       → Stands x a (b ∷ xs) room more (sends o x a until (b ∷ xs) room)
-  one-more until x a b xs room more plain rest = go (stopsAt until b) refl (leb (length (items o x (wantedOf (converted a b)))) room) refl
+  one-more until x a b xs room more plain rest = go (stopsAt until b) refl (leb (length (items o x (wantedBy a b))) room) refl
     where
-      go : (halts : Bool) → stopsAt until b ≡ halts → (fit : Bool) → leb (length (items o x (wantedOf (converted a b)))) room ≡ fit → Stands x a (b ∷ xs) room more (sends o x a until (b ∷ xs) room)
+      go : (halts : Bool) → stopsAt until b ≡ halts → (fit : Bool) → leb (length (items o x (wantedBy a b))) room ≡ fit → Stands x a (b ∷ xs) room more (sends o x a until (b ∷ xs) room)
       go true e fit f = rw e (none-stand x a (b ∷ xs) room more)
       go false e false f = rw (e, f) (none-stand x a (b ∷ xs) room more)
       go false e true f =
           let p = plain e in
-          let cs = items o x (wantedOf (converted a b)) in
-          let d = sends o (afterItems o x (wantedOf (converted a b))) (asksNext o a b) until xs (room - length cs) in
+          let cs = items o x (wantedBy a b) in
+          let d = sends o (afterItems o x (wantedBy a b)) (asksNext o a b) until xs (room - length cs) in
           let u : room - length cs - length (d .codes) ≡ room - length (cs ++ d .codes) = omega (arith, length-append cs (d .codes)) in
           rw (e, f, p .is-taken, one-fits x a b room more p ∙ f, p .state, p .first, p .second, sub-zero more, rest, u) (nested (d .taken) cs (d .codes) _)
 
