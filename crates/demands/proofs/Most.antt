@@ -16,33 +16,33 @@ use Rattle.settings.specs.Laws.{Sound}
 use Rattle.settings.specs.Options.{reports, endingCodes}
 use Rattle.settings.proofs.Sent.{answers-short}
 use Rattle.sender.specs.Item.{wanted}
+use Rattle.sender.proofs.Few.{text-few}
 use Rattle.agree.proofs.Length.{item-length, items-length}
 use Rattle.step.specs.Route.{route}
 use Rattle.step.specs.State.{sound, withReader}
-use Rattle.step.specs.Step.{Step, sends, released, text, hosted, isRead, readAs, lined, tued, step}
+use Rattle.step.specs.Step.{Step, sends, text, hosted, isRead, readAs, lined, tued, step}
 use Rattle.step.specs.Byte.{firstOf, secondOf}
 use Rattle.step.specs.Laws.{Parts, Few, mostFirst, mostSecond}
-use Rattle.step.proofs.Sent.{asked-few}
 use Rattle.step.proofs.Stays.{sound-parts}
 use Rattle.linebox.specs.Call.{call}
 use Rattle.linebox.specs.Ends.{fitsAt, Ends}
 use Rattle.linebox.proofs.Ending.{ends}
 use Rattle.demands.specs.Names.{Case, Kind, Wanted, Route, Dropped, ToPrinter, ToHost, ToTu, Out, Nothing, One, Two, Finished, State, Stream, Host, Line, Tu}
 
-text-few : (k : Route) (slash : Bool) (b : ℕ) → length (text k (released slash b)) ≤ 2
-text-few Dropped slash b = lit≤ tt
-text-few ToPrinter slash b = asked-few slash b
-text-few ToHost slash b = lit≤ tt
-text-few ToTu slash b = lit≤ tt
+-- what the command reader made is two bytes at most
+text-two : (k : Route) (bs : List ℕ) → length bs ≤ 2 → length (text k bs) ≤ 2
+text-two Dropped bs h = lit≤ tt
+text-two ToPrinter bs h = omega (arith, text-few bs, h)
+text-two ToHost bs h = lit≤ tt
+text-two ToTu bs h = lit≤ tt
 
--- at most two items
 sends-few : (s : State) (ws : List Wanted) → Sound (s .settings) (s .connection) → length ws ≤ 2 → Few Host (sends s ws)
 sends-few s ws h few = record { line = items-length (s .settings) (h .settings) (s .sender) ws few; host = lit≤ tt; tu = lit≤ tt }
 
 hosted-few : (s : State) (fields : List ℕ) (out : Out) → length fields ≡ 11 → Sound (s .settings) (s .connection) → Few Host (hosted s fields out)
 hosted-few s fields Nothing l h = record { line = lit≤ tt; host = lit≤ tt; tu = lit≤ tt }
-hosted-few s fields (One b) l h = sends-few s (text (route (s .connection) Host) (released false b)) h (text-few (route (s .connection) Host) false b)
-hosted-few s fields (Two b) l h = sends-few s (text (route (s .connection) Host) (released true b)) h (text-few (route (s .connection) Host) true b)
+hosted-few s fields (One b) l h = sends-few s (text (route (s .connection) Host) (b ∷ [])) h (text-two (route (s .connection) Host) (b ∷ []) (lit≤ tt))
+hosted-few s fields (Two b) l h = sends-few s (text (route (s .connection) Host) (47 ∷ b ∷ [])) h (text-two (route (s .connection) Host) (47 ∷ b ∷ []) (lit≤ tt))
 hosted-few s fields (Finished v count) l h = record { line = lit≤ tt; host = answers-short (s .settings) (s .connection) h v count fields l .short; tu = lit≤ tt }
 
 read-few : (reports : Bool) (case : Case) (k : Kind) (c : ℕ) → length (readAs reports case k c) ≤ 1

@@ -16,9 +16,10 @@ use Rattle.code.specs.Rows.{letters, figures, rowAt}
 use Rattle.code.specs.Kinds.{kindOf}
 use Rattle.code.specs.Convert.{capital, seek, conversion}
 use Rattle.command.specs.Read.{read, textOf}
-use Rattle.sender.specs.Item.{wantedOf}
+use Rattle.sender.specs.declared.Asks.the-variants.{Text}
+use Rattle.sender.specs.Item.{wantedBy, wantedText}
 use Rattle.step.specs.Route.{route}
-use Rattle.step.specs.Step.{asked, text, Event}
+use Rattle.step.specs.Step.{text, Event}
 use Rattle.demands.specs.Names.{Case, Letters, Figures, Conversion, Connection, Dropped, ToPrinter, Wanted, State, Stream, Host, Line, Tu}
 use Rattle.demands.specs.Asks.{textByte, textBytes, hostAsks, codeIn, tuAsks, asksBy, asks}
 use Rattle.demands.specs.Items.{carriedTo, itemsBy, itemsOf}
@@ -50,28 +51,28 @@ none-high b h =
 -- Text.
 
 byte-test : ℕ → Bool
-byte-test b = same (reads (wantedOf (conversion b))) (textByte b)
+byte-test b = same (reads (wantedBy Text b)) (textByte b)
 
 byte-all : T (upto byte-test 128)
 unfolding byte-test conversion kindOf rowAt
 byte-all = tt
 
 -- a byte's item reads as the byte in capitals
-byte-reads : (b : ℕ) → reads (wantedOf (conversion b)) ≡ textByte b
+byte-reads : (b : ℕ) → reads (wantedBy Text b) ≡ textByte b
 unfolding byte-test
 byte-reads b = go (ltb b 128) refl
   where
-    go : (l : Bool) → ltb b 128 ≡ l → reads (wantedOf (conversion b)) ≡ textByte b
-    go true e = same-tested (reads (wantedOf (conversion b))) (textByte b) (below byte-test 128 byte-all b (ltb-true b 128 e))
+    go : (l : Bool) → ltb b 128 ≡ l → reads (wantedBy Text b) ≡ textByte b
+    go true e = same-tested (reads (wantedBy Text b)) (textByte b) (below byte-test 128 byte-all b (ltb-true b 128 e))
     go false e = rw (none-high b (ltb-false b 128 e))
 
 reads-append : (xs ys : List Wanted) → reads (xs ++ ys) ≡ reads xs ++ reads ys
 reads-append [] ys = refl
 reads-append (x ∷ xs) ys = rw (reads-append xs ys, append-assoc)
 
-text-reads : (bs : List ℕ) → reads (asked bs) ≡ textBytes bs
+text-reads : (bs : List ℕ) → reads (wantedText bs) ≡ textBytes bs
 text-reads [] = refl
-text-reads (b ∷ bs) = rw (reads-append (wantedOf (conversion b)) (asked bs), byte-reads b, text-reads bs)
+text-reads (b ∷ bs) = rw (reads-append (wantedBy Text b) (wantedText bs), byte-reads b, text-reads bs)
 
 -- the box's route is the mode's
 host-reads : (k : Connection) (bs : List ℕ) → reads (text (route k Host) bs) ≡ hostAsks k bs
