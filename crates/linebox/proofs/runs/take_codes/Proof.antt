@@ -1,5 +1,6 @@
 -- `linebox::runs::take_codes` meets its contract: on their route to the printer codes run, and else none is taken.
 -- Assumes nothing.
+use mathlib.Core.Path.{sym, _∙_}
 use denote.Ref.{now}
 use Rattle.linebox.specs.Names.{Tu}
 use Rattle.linebox.proofs.PlainText.{unmoved}
@@ -11,7 +12,9 @@ prints-requires : tie.Need-prints-requires
 prints-requires c κs = search needs
 
 run-codes-requires : tie.Need-run-codes-requires
-run-codes-requires c κs = ?
+run-codes-requires c κs =
+    let d = c .before .before .before .before .before .before in
+    (d .pre, sym (c .before .before .prints .ensures) ∙ c .before .if1 .taken)
 
 same-length : tie.Need-same-length
 same-length c = search needs

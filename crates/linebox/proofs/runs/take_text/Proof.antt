@@ -1,5 +1,6 @@
 -- `linebox::runs::take_text` meets its contract: on its route to the printer and with nothing held text runs, and else no byte is taken.
 -- Assumes nothing.
+use mathlib.Core.Path.{sym, _∙_}
 use denote.Ref.{now}
 use Rattle.linebox.specs.Names.{Host}
 use Rattle.linebox.proofs.PlainText.{unmoved}
@@ -14,7 +15,9 @@ is-text-requires : tie.Need-is-text-requires
 is-text-requires c κs = search needs
 
 run-text-requires : tie.Need-run-text-requires
-run-text-requires c κs = ?
+run-text-requires c κs =
+    let d = c .before .before .before .before .before .before .before .before .before in
+    (d .pre, sym (c .before .before .before .before .prints .ensures) ∙ c .before .before .before .if1 .taken, sym (c .before .before .is-text .ensures) ∙ c .before .if2 .taken)
 
 same-length : tie.Need-same-length
 same-length c = search needs
