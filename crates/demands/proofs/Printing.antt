@@ -52,7 +52,7 @@ module _ (x : Scene) (e : Event) (other : Printer) (stands : Stands x) (obeys : 
     printed = rw (line-items (x .state) e, ← items-read (x .state) e) (items-printed o sender (x .printer) ws obeys-items (stands .agrees));
     margin = λ on.
         let parts = sound-parts (x .state) (stands .sound) in
-        rw (line-items (x .state) e) (items-within o (parts .held .settings) (parts .held .places) on sender (x .printer) ws (x .returned) (stands .sure) obeys-items (stands .agrees));
+        rw (line-items (x .state) e) (items-within o (parts .held .settings) on sender (x .printer) ws (x .returned) (stands .sure) obeys-items (stands .agrees));
   }
 
   -- The same stands after the byte.

@@ -2,6 +2,7 @@
 -- and what was sent reads as it was asked for.
 -- Assumes nothing.
 use Prim.Native.Nat.{ℕ, _+_}
+use lib.Dec.{eqb}
 use mathlib.Core.Path.{_≡_, refl, sym, ap, _∙_}
 use mathlib.Core.Bool.{Bool, true, false, cond, false≢true}
 use mathlib.Core.List.{List, [], _∷_, _++_, append-assoc}
@@ -27,7 +28,7 @@ use Rattle.step.proofs.Ways.{lined-touches, tued-touches}
 use Rattle.demands.specs.Names.{Case, Letters, Kind, Still, Space, Return, Shift, Char, Settings, Connection, Route, ToHost, Printer, Reader, Out, Nothing, One, Two, Finished, State, Stream, Host, Line, Tu}
 use Rattle.demands.specs.Connects.{connecting, connectsBy, connects}
 use Rattle.demands.specs.Items.{itemsOf}
-use Rattle.demands.specs.Asks.{textBytes, hostAsks, tuAsks, asksBy, asks}
+use Rattle.demands.specs.Asks.{codeIn, textBytes, hostAsks, tuAsks, asksBy, asks}
 use Rattle.demands.specs.Lent.{lines}
 use Rattle.demands.specs.Printing.{charactersOf}
 use Rattle.demands.specs.Whole.{asksAll}
@@ -131,24 +132,23 @@ text-append : (xs ys : List ℕ) → textBytes (xs ++ ys) ≡ textBytes xs ++ te
 text-append [] ys = refl
 text-append (x ∷ xs) ys = rw (text-append xs ys, append-assoc)
 
-module _ where
-  asks-text : (s : State) (es : List Event) → s .connection .mode ≡ 1 → AllPlain s es → asksAll s es ≡ plainText s es
-  asks-text s [] e h = refl
-  asks-text s (x ∷ es) e h = go (x .stream) (x .byte) (asks-text (step (x .stream) s (x .byte) .state) es (ap (λ (k : Connection). k .mode) (stays-by (x .stream) s (x .byte) (h .0 .stays)) ∙ e) (h .1))
-    where
-      go : (t : Stream) (b : ℕ) → asksAll (step t s b .state) es ≡ plainText (step t s b .state) es
-          → asksBy t s b ++ asksAll (step t s b .state) es ≡ textBytes (texts (made (s .reader) (hostByte t b ++ hostBytes es)))
-      go Host b rest =
-          let r = read (s .reader) b in
-          let same : step Host s b .state .reader ≡ r .reader = hosted-reader (withReader s (r .reader)) (s .reader .values) (r .out) in
-          ap (λ (m : ℕ). cond (eqb m 1) (textBytes (textOf (r .out))) [] ++ asksAll (step Host s b .state) es) e
-          ∙ ap (λ (u : List ℕ). textBytes (textOf (r .out)) ++ u) (rest ∙ ap (λ (q : Reader). textBytes (texts (made q (hostBytes es)))) same)
-          ∙ sym (text-append (textOf (r .out)) (texts (made (r .reader) (hostBytes es))))
-      go Line b rest = rest ∙ ap (λ (q : Reader). textBytes (texts (made q (hostBytes es)))) (ap (λ (x : State). x .reader) (lined-touches (route (s .connection) Line) s b))
-      go Tu b rest =
-          ap (λ (m : ℕ). cond (eqb m 4) (codeIn (s .incoming) b) [] ++ asksAll (step Tu s b .state) es) e
-          ∙ rest
-          ∙ ap (λ (q : Reader). textBytes (texts (made q (hostBytes es)))) (ap (λ (x : State). x .reader) (tued-touches (route (s .connection) Tu) s b))
+asks-text : (s : State) (es : List Event) → s .connection .mode ≡ 1 → AllPlain s es → asksAll s es ≡ plainText s es
+asks-text s [] e h = refl
+asks-text s (x ∷ es) e h = go (x .stream) (x .byte) (asks-text (step (x .stream) s (x .byte) .state) es (ap (λ (k : Connection). k .mode) (stays-by (x .stream) s (x .byte) (h .0 .stays)) ∙ e) (h .1))
+  where
+    go : (t : Stream) (b : ℕ) → asksAll (step t s b .state) es ≡ plainText (step t s b .state) es
+        → asksBy t s b ++ asksAll (step t s b .state) es ≡ textBytes (texts (made (s .reader) (hostByte t b ++ hostBytes es)))
+    go Host b rest =
+        let r = read (s .reader) b in
+        let same : step Host s b .state .reader ≡ r .reader = hosted-reader (withReader s (r .reader)) (s .reader .values) (r .out) in
+        ap (λ (m : ℕ). cond (eqb m 1) (textBytes (textOf (r .out))) [] ++ asksAll (step Host s b .state) es) e
+        ∙ ap (λ (u : List ℕ). textBytes (textOf (r .out)) ++ u) (rest ∙ ap (λ (q : Reader). textBytes (texts (made q (hostBytes es)))) same)
+        ∙ sym (text-append (textOf (r .out)) (texts (made (r .reader) (hostBytes es))))
+    go Line b rest = rest ∙ ap (λ (q : Reader). textBytes (texts (made q (hostBytes es)))) (ap (λ (x : State). x .reader) (lined-touches (route (s .connection) Line) s b))
+    go Tu b rest =
+        ap (λ (m : ℕ). cond (eqb m 4) (codeIn (s .incoming) b) [] ++ asksAll (step Tu s b .state) es) e
+        ∙ rest
+        ∙ ap (λ (q : Reader). textBytes (texts (made q (hostBytes es)))) (ap (λ (x : State). x .reader) (tued-touches (route (s .connection) Tu) s b))
 
 -- What a connection command that succeeds hands back.
 

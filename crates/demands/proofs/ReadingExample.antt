@@ -55,7 +55,7 @@ example-sent = refl
 
 pub example-joins : Joins (run freshBox before) joining
 unfolding commanded row route soundSettings soundConnection soundString
-example-joins = record { connects = refl; port = 1; speed = 60; mode1 = refl }
+example-joins = record { connects = refl; mode1 = refl }
 
 pub example-plain : AllPlain connected after
 unfolding commanded row route soundSettings soundConnection soundString conversion kindOf rowAt endings limit onspace onreturn filter reports endingCodes

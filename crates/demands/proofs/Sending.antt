@@ -1,7 +1,7 @@
 -- What a byte sends is its items, and unless it connects the sender is theirs after it.
 -- Assumes nothing.
 use Prim.Native.Nat.{ℕ}
-use mathlib.Core.Path.{_≡_, refl}
+use mathlib.Core.Path.{_≡_, refl, ap}
 use mathlib.Core.Bool.{cond}
 use mathlib.Core.List.{[]}
 use Rattle.command.specs.Read.{read, textOf}
