@@ -10,7 +10,7 @@ use Rattle.settings.specs.Options.{filter}
 use Rattle.printer.specs.Printer.{hearKind, hear, hears, printsAll}
 use Rattle.sender.specs.Record.{notes}
 use Rattle.sender.specs.Item.{character, lastOf, repeats, item, afterItem, items, afterItems}
-use Rattle.sender.proofs.Sends.{notes-append}
+use Rattle.sender.proofs.Append.{notes-append}
 use Rattle.agree.specs.Names.{Case, Shift, Settings, Printer, Wanted, Sender}
 use Rattle.agree.specs.Agrees.{Obeys}
 

@@ -15,7 +15,7 @@ use Rattle.sender.specs.Code.{shiftTo, unshift, sendKind, sendAs}
 use Rattle.sender.specs.Ending.{onRecord, endingCode, endingOf, untilZero, due, ending, endingBefore}
 use Rattle.sender.specs.Item.{character, lastOf, item, afterItem, items, wanted, wantedOf}
 use Rattle.sender.specs.After.{afterUnshift, afterCase}
-use Rattle.sender.proofs.Sends.{notes-append}
+use Rattle.sender.proofs.Append.{notes-append}
 use Rattle.agree.specs.Names.{Case, Letters, Figures, Kind, Still, Space, Return, Shift, Char, Conversion, Cased, Settings, Known, Is, Record, Wanted, Sender}
 use Rattle.agree.specs.Names.known
 use Rattle.sender.proofs.After.{record-after}

@@ -13,7 +13,7 @@ use Rattle.sender.specs.Code.{shiftTo, unshift, sendKind, sendAs}
 use Rattle.sender.specs.Ending.{onRecord, endingCode, endingOf, untilZero, due, ending, endingBefore}
 use Rattle.sender.specs.Item.{item, afterItem, items, afterItems}
 use Rattle.sender.specs.After.{afterUnshift, afterCase, afterColumn}
-use Rattle.sender.proofs.Sends.{notes-append}
+use Rattle.sender.proofs.Append.{notes-append}
 use Rattle.agree.specs.Names.{Case, Kind, Still, Space, Return, Shift, Char, Settings, Known, Column, At, Record, Wanted, Sender}
 use Rattle.agree.specs.Names.column
 use Rattle.agree.specs.Sure.{ColumnSure, CaseSure, isReturn, isCased, holds}

@@ -10,7 +10,7 @@ use Rattle.step.specs.Step.{Event}
 use Rattle.linebox.specs.Ends.{events}
 use Rattle.demands.specs.Names.{Figures, Printer, Host, Line, Tu}
 use Rattle.demands.specs.Lent.{Lent}
-use Rattle.demands.specs.Traces.{write, mode1, mode4, on70, on71, endings}
+use Rattle.demands.specs.Traces.{write, mode1, mode4, on70, on71, endingsOn}
 
 -- a call with so much room in the line buffer
 abbrev host : ℕ → List ℕ → Lent
@@ -42,7 +42,7 @@ figures = 13 ∷ 49 ∷ 50 ∷ 51 ∷ 52 ∷ 53 ∷ 54 ∷ 55 ∷ 56 ∷ 57 ∷ 
 -- the second call stops for want of room before the ending, and the sixth at a byte that is no code
 abbrev pub calls : List Lent
 calls =
-    host 0 endings
+    host 0 endingsOn
     ∷ host 16 (hello ++ world)
     ∷ host 20 world
     ∷ host 20 change
@@ -54,7 +54,7 @@ calls =
 
 -- the bytes that they take
 abbrev pub bytes : List Event
-bytes = events Host (endings ++ hello ++ world ++ change ++ mode4) ++ events Tu figure ++ events Line (3 ∷ []) ++ events Host (on71 ++ mode1 ++ figures)
+bytes = events Host (endingsOn ++ hello ++ world ++ change ++ mode4) ++ events Tu figure ++ events Line (3 ∷ []) ++ events Host (on71 ++ mode1 ++ figures)
 
 -- a printer for each connection; the second unshifts on space, the third on return
 abbrev pub first : Printer

@@ -72,8 +72,8 @@ abbrev tu : List ℕ → List ℕ → List ℕ → Trace
 tu before bytes sent = record { before = before; stream = Tu; bytes = bytes; sent = sent }
 
 -- mode 1, limit 10, 49 on
-abbrev pub endings : List ℕ
-endings = mode1 ++ limit10 ++ on49
+abbrev pub endingsOn : List ℕ
+endingsOn = mode1 ++ limit10 ++ on49
 
 abbrev pub tenLetters : List ℕ
 tenLetters = 65 ∷ 66 ∷ 67 ∷ 68 ∷ 69 ∷ 70 ∷ 71 ∷ 72 ∷ 73 ∷ 74 ∷ []
@@ -96,10 +96,10 @@ traces =
     ∷ host mode1 (47 ∷ 65 ∷ []) (27 ∷ 29 ∷ 31 ∷ 3 ∷ [])
     ∷ tu (mode4 ++ on70) (27 ∷ 23 ∷ 4 ∷ 23 ∷ []) (27 ∷ 23 ∷ 4 ∷ 31 ∷ 23 ∷ [])
     ∷ tu (mode4 ++ on72) (31 ∷ 31 ∷ 31 ∷ 5 ∷ []) (31 ∷ 5 ∷ [])
-    ∷ host endings (13 ∷ tenLetters) (8 ∷ 31 ∷ tenSent)
-    ∷ host (endings ++ 13 ∷ tenLetters) (75 ∷ []) (8 ∷ 8 ∷ 2 ∷ 31 ∷ 31 ∷ 15 ∷ [])
-    ∷ host (endings ++ 13 ∷ tenLetters) (53 ∷ []) (8 ∷ 8 ∷ 2 ∷ 31 ∷ 31 ∷ 27 ∷ 16 ∷ [])
-    ∷ host (endings ++ 13 ∷ tenLetters) (7 ∷ []) (27 ∷ 5 ∷ [])
-    ∷ host endings (tenLetters ++ 75 ∷ []) (31 ∷ tenSent ++ 15 ∷ [])
+    ∷ host endingsOn (13 ∷ tenLetters) (8 ∷ 31 ∷ tenSent)
+    ∷ host (endingsOn ++ 13 ∷ tenLetters) (75 ∷ []) (8 ∷ 8 ∷ 2 ∷ 31 ∷ 31 ∷ 15 ∷ [])
+    ∷ host (endingsOn ++ 13 ∷ tenLetters) (53 ∷ []) (8 ∷ 8 ∷ 2 ∷ 31 ∷ 31 ∷ 27 ∷ 16 ∷ [])
+    ∷ host (endingsOn ++ 13 ∷ tenLetters) (7 ∷ []) (27 ∷ 5 ∷ [])
+    ∷ host endingsOn (tenLetters ++ 75 ∷ []) (31 ∷ tenSent ++ 15 ∷ [])
     ∷ tu (mode4 ++ limit10 ++ on49) (tenFigures ++ 16 ∷ []) (tenFigures ++ 8 ∷ 8 ∷ 2 ∷ 31 ∷ 31 ∷ 27 ∷ 16 ∷ [])
     ∷ []

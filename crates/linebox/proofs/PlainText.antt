@@ -15,11 +15,11 @@ use Rattle.command.specs.declared.Stage.the-variants as stage
 use Rattle.command.specs.Read.{read, readAt, afresh, at, idle}
 use Rattle.code.specs.Kinds.{kindOf}
 use Rattle.sender.specs.Item.{items, wantedBy, wantedText}
-use Rattle.sender.specs.Sends.{asksNext, stopsAt, Run, sends, Sends}
+use Rattle.sender.specs.Run.{asksNext, stopsAt, Run, runOf, SendsRun}
 use Rattle.sender.specs.declared.Sent.{Sent}
 use Rattle.linebox.specs.Names.{Case, Route, Dropped, ToPrinter, ToHost, ToTu, Settings, Sender, Asks, Text, Codes, Byte, Above, One, State, Stream, Host, Tu, Ran}
 use Rattle.step.specs.State.{sound, withReader, withSender, withIncoming}
-use Rattle.step.specs.Step.{Step, sends as sent, text, hosted, hostStep, tued, tuStep, carried, step}
+use Rattle.step.specs.Step.{Step, sends, text, hosted, hostStep, tued, tuStep, carried, step}
 use Rattle.linebox.specs.Call.{firstOf, secondOf, refuses, fits, Done, before, taking}
 use Rattle.linebox.specs.Plain.{isText}
 use Rattle.step.specs.Step.{caseOf}
@@ -78,7 +78,7 @@ texting-sound s x ok =
     let p = sound-parts s ok in
     parts-sound (texting s x) (record { held = p .held; stage = refl; eleven = refl })
 
-text-step : (s : State) (b : ℕ) → isPrinter (route (s .connection) Host) ≡ true → isText (s .reader .stage) ≡ true → eqb b 47 ≡ false → hostStep s b ≡ sent (withReader s idle) (wantedBy Text b)
+text-step : (s : State) (b : ℕ) → isPrinter (route (s .connection) Host) ≡ true → isText (s .reader .stage) ≡ true → eqb b 47 ≡ false → hostStep s b ≡ sends (withReader s idle) (wantedBy Text b)
 text-step s b m h e = rw (reads-text (s .reader .stage) (s .reader .values) b h e, open-text (route (s .connection) Host) (b ∷ []) m, append-nil)
 
 plain-text : (s : State) → isPrinter (route (s .connection) Host) ≡ true → (x : Sender) (a : Asks) (b : ℕ) → asText a ≡ true → stopsAt (Byte 47) b ≡ false → Plain Host (s .settings) (λ y z. texting s y) x a b
@@ -89,11 +89,11 @@ plain-text s m x (Codes case) b h e = absurd (false≢true h)
 
 -- the first byte of a run is read as if no field had ever been
 first-same : (s : State) (xs : List ℕ) (room more : ℕ) → isPrinter (route (s .connection) Host) ≡ true → isText (s .reader .stage) ≡ true
-    → (sends (s .settings) (s .sender) Text (Byte 47) xs room .taken ≡ 0 → ⊥) → taking Host s xs room more ≡ taking Host (texting s (s .sender)) xs room more
+    → (runOf (s .settings) (s .sender) Text (Byte 47) xs room .taken ≡ 0 → ⊥) → taking Host s xs room more ≡ taking Host (texting s (s .sender)) xs room more
 first-same s [] room more m h n = absurd (n refl)
 first-same s (b ∷ xs) room more m h n = go (eqb b 47) refl (leb (length (items (s .settings) (s .sender) (wantedBy Text b))) room) refl n
   where
-    go : (z : Bool) → eqb b 47 ≡ z → (fit : Bool) → leb (length (items (s .settings) (s .sender) (wantedBy Text b))) room ≡ fit → (sends (s .settings) (s .sender) Text (Byte 47) (b ∷ xs) room .taken ≡ 0 → ⊥)
+    go : (z : Bool) → eqb b 47 ≡ z → (fit : Bool) → leb (length (items (s .settings) (s .sender) (wantedBy Text b))) room ≡ fit → (runOf (s .settings) (s .sender) Text (Byte 47) (b ∷ xs) room .taken ≡ 0 → ⊥)
         → taking Host s (b ∷ xs) room more ≡ taking Host (texting s (s .sender)) (b ∷ xs) room more
     go true e fit f n = absurd (n (rw e))
     go false e false f n = absurd (n (rw (e, f)))
@@ -104,9 +104,9 @@ first-same s (b ∷ xs) room more m h n = go (eqb b 47) refl (leb (length (items
         rw (u, fits)
 
 module _ (s : State) (ok : sound s ≡ true) (m : isPrinter (route (s .connection) Host) ≡ true) (h : isText (s .reader .stage) ≡ true) (input old now : List ℕ) (x : Sent)
-    (f : Sends (sends (s .settings) (s .sender) Text (Byte 47) input (length old)) old now x) where
+    (f : SendsRun (runOf (s .settings) (s .sender) Text (Byte 47) input (length old)) old now x) where
   abbrev d : Run
-  d = sends (s .settings) (s .sender) Text (Byte 47) input (length old)
+  d = runOf (s .settings) (s .sender) Text (Byte 47) input (length old)
 
   -- no byte was sent
   pub text-none : x .taken ≡ 0 → Runs Host s input old now (record { state = s; taken = 0; count = 0 })
@@ -154,10 +154,10 @@ coding-sound s x a ok =
     parts-sound (coding s x a) (record { held = p .held; stage = p .stage; eleven = p .eleven })
 
 pub codes-run : (s : State) (ok : sound s ≡ true) (m : isPrinter (route (s .connection) Tu) ≡ true) (input old now : List ℕ) (x : Sent)
-    → Sends (sends (s .settings) (s .sender) (Codes (s .incoming)) (Above 31) input (length old)) old now x
+    → SendsRun (runOf (s .settings) (s .sender) (Codes (s .incoming)) (Above 31) input (length old)) old now x
     → Runs Tu s input old now (record { state = coding s (x .sender) (x .asks); taken = x .taken; count = x .count })
 codes-run s ok m input old now x f =
-    let d = sends (s .settings) (s .sender) (Codes (s .incoming)) (Above 31) input (length old) in
+    let d = runOf (s .settings) (s .sender) (Codes (s .incoming)) (Above 31) input (length old) in
     rw (f .gives) (record {
       new = d .codes;
       within = run-within (s .settings) (s .sender) (Codes (s .incoming)) (Above 31) input (length old);

@@ -9,7 +9,7 @@ use native.Mathlib.Nat.{zero-add, sub-zero}
 use lib.Dec.{leb, leb·zero}
 use lib.ListN.{length, drop, length-append}
 use Rattle.sender.specs.Item.{items, afterItems, wantedBy}
-use Rattle.sender.specs.Sends.{asksNext, stopsAt, Run, sends}
+use Rattle.sender.specs.Run.{asksNext, stopsAt, Run, runOf}
 use Rattle.linebox.specs.Names.{Settings, Sender, Asks, Until, State, Stream}
 use Rattle.step.specs.Step.{Step, step}
 use Rattle.linebox.specs.Call.{firstOf, secondOf, refuses, fits, Done, onward, before, taking}
@@ -40,23 +40,23 @@ module _ (t : Stream) (o : Settings) (st : Sender → Asks → State) where
   one-fits x a b room more p = rw (p .first, p .second, leb·zero, and-true)
 
   one-more : (until : Until) (x : Sender) (a : Asks) (b : ℕ) (xs : List ℕ) (room more : ℕ) → (stopsAt until b ≡ false → Plain t o st x a b)
-      → (let y = afterItems o x (wantedBy a b) in let r = room - length (items o x (wantedBy a b)) in Stands y (asksNext o a b) xs r more (sends o y (asksNext o a b) until xs r))
-      → Stands x a (b ∷ xs) room more (sends o x a until (b ∷ xs) room)
+      → (let y = afterItems o x (wantedBy a b) in let r = room - length (items o x (wantedBy a b)) in Stands y (asksNext o a b) xs r more (runOf o y (asksNext o a b) until xs r))
+      → Stands x a (b ∷ xs) room more (runOf o x a until (b ∷ xs) room)
   one-more until x a b xs room more plain rest = go (stopsAt until b) refl (leb (length (items o x (wantedBy a b))) room) refl
     where
-      go : (halts : Bool) → stopsAt until b ≡ halts → (fit : Bool) → leb (length (items o x (wantedBy a b))) room ≡ fit → Stands x a (b ∷ xs) room more (sends o x a until (b ∷ xs) room)
+      go : (halts : Bool) → stopsAt until b ≡ halts → (fit : Bool) → leb (length (items o x (wantedBy a b))) room ≡ fit → Stands x a (b ∷ xs) room more (runOf o x a until (b ∷ xs) room)
       go true e fit f = rw e (none-stand x a (b ∷ xs) room more)
       go false e false f = rw (e, f) (none-stand x a (b ∷ xs) room more)
       go false e true f =
           let p = plain e in
           let cs = items o x (wantedBy a b) in
-          let d = sends o (afterItems o x (wantedBy a b)) (asksNext o a b) until xs (room - length cs) in
+          let d = runOf o (afterItems o x (wantedBy a b)) (asksNext o a b) until xs (room - length cs) in
           let u : room - length cs - length (d .codes) ≡ room - length (cs ++ d .codes) = omega (arith, length-append cs (d .codes)) in
           rw (e, f, p .is-taken, one-fits x a b room more p ∙ f, p .state, p .first, p .second, sub-zero more, rest, u) (nested (d .taken) cs (d .codes) _)
 
   -- the bytes up to the first that stops the run
   module _ (until : Until) (how : Asks → Bool) (keeps : (a : Asks) (b : ℕ) → how a ≡ true → how (asksNext o a b) ≡ true)
       (plain : (x : Sender) (a : Asks) (b : ℕ) → how a ≡ true → stopsAt until b ≡ false → Plain t o st x a b) where
-    pub plainly : (xs : List ℕ) (x : Sender) (a : Asks) (room more : ℕ) → how a ≡ true → Stands x a xs room more (sends o x a until xs room)
+    pub plainly : (xs : List ℕ) (x : Sender) (a : Asks) (room more : ℕ) → how a ≡ true → Stands x a xs room more (runOf o x a until xs room)
     plainly [] x a room more h = none-stand x a [] room more
     plainly (b ∷ xs) x a room more h = one-more until x a b xs room more (plain x a b h) (plainly xs _ _ _ more (keeps a b h))

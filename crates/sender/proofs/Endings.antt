@@ -17,8 +17,8 @@ use Rattle.sender.specs.Names.{Settings, Record, Noted}
 use Rattle.sender.specs.Record.{notes}
 use Rattle.sender.specs.Ending.{onRecord, endingCode, endingOf, untilZero}
 use Rattle.sender.specs.After.{after}
-use Rattle.sender.specs.Sends.{noted, Notes}
-use Rattle.sender.proofs.Sends.{notes-append}
+use Rattle.sender.specs.Run.{noted, Notes}
+use Rattle.sender.proofs.Append.{notes-append}
 use Rattle.sender.proofs.After.{record-after}
 use Rattle.sender.proofs.Few.{kind-length}
 

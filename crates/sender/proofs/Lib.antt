@@ -1,4 +1,4 @@
-pub mod Sends
+pub mod Append
 pub mod After
 mod Shifted
 pub mod Few

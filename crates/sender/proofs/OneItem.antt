@@ -17,8 +17,8 @@ use Rattle.sender.specs.Code.{sendKind, sendAs}
 use Rattle.sender.specs.Ending.{due, ending, endingBefore}
 use Rattle.sender.specs.Item.{character, lastOf, repeats, item, items, afterItem, afterItems}
 use Rattle.sender.specs.After.{after}
-use Rattle.sender.specs.Sends.{noted, counted, Notes, Puts}
-use Rattle.sender.proofs.Sends.{notes-append}
+use Rattle.sender.specs.Run.{noted, counted, Notes, PutsItems}
+use Rattle.sender.proofs.Append.{notes-append}
 use Rattle.sender.proofs.After.{record-after}
 
 -- no ending
@@ -72,7 +72,7 @@ module _ (o : Settings) (s : Sender) (w : Wanted) (k : Kind) (last : Last) (p : 
     pub drop-counted : (0 ≤ 18) × (record { sender = record { held = s .held; last = last }; count = 0 } ≡ counted o s (w ∷ []))
     drop-counted = (omega arith, rw (q, p, dropped))
 
-    pub item-dropped : (old : List ℕ) → Puts o s (w ∷ []) old old (record { sender = record { held = s .held; last = last }; count = 0 })
+    pub item-dropped : (old : List ℕ) → PutsItems o s (w ∷ []) old old (record { sender = record { held = s .held; last = last }; count = 0 })
     item-dropped old = rw (q, p) (record { sender = rw dropped; places = rw dropped (filled-none old) })
 
   -- sent
@@ -87,5 +87,5 @@ module _ (o : Settings) (s : Sender) (w : Wanted) (k : Kind) (last : Last) (p : 
     item-room n h = rw (kept, append-nil (character o (s .held) w)) at h
 
     pub item-sent : (old now : List ℕ) (x : Noted) → Notes o (s .held) (character o (s .held) w) old now x
-        → Puts o s (w ∷ []) old now (record { sender = record { held = x .held; last = last }; count = x .count })
+        → PutsItems o s (w ∷ []) old now (record { sender = record { held = x .held; last = last }; count = x .count })
     item-sent old now x n = rw (q, p) (record { sender = rw (kept, n .held); places = rw (kept, append-nil) (n .places) })

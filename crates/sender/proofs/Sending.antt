@@ -16,7 +16,7 @@ use Rattle.laws.proofs.Either.{either-way}
 use Rattle.laws.proofs.Filled.{filled-none, filled-on}
 use Rattle.sender.specs.Names.{Conversion, Nothing, Free, Cased, Settings, Sender, Asks, Until, Item}
 use Rattle.sender.specs.Item.{items, afterItems, wantedOf, wantedBy}
-use Rattle.sender.specs.Sends.{isNone, wantedAs, asksNext, stopsAt, Run, stopped, onward, sends, Puts, Sends}
+use Rattle.sender.specs.Run.{isNone, wantedAs, asksNext, stopsAt, Run, noRun, runOn, runOf, PutsItems, SendsRun}
 
 -- where there is a code, it is the one item
 pub one-wanted : (x : Conversion) → isNone x ≡ false → wantedOf x ≡ wantedAs x ∷ []
@@ -35,7 +35,7 @@ abbrev before : ℕ → List ℕ → Run → Run
 before n p d = record { sender = d .sender; asks = d .asks; taken = n + d .taken; codes = p ++ d .codes }
 
 -- a byte more before the rest
-moved : (n : ℕ) (p cs : List ℕ) (d : Run) → before n p (onward cs d) ≡ before (n + 1) (p ++ cs) d
+moved : (n : ℕ) (p cs : List ℕ) (d : Run) → before n p (runOn cs d) ≡ before (n + 1) (p ++ cs) d
 moved n p cs d =
     let u : n + suc (d .taken) ≡ n + 1 + d .taken = omega arith in
     rw (u, append-assoc p cs (d .codes))
@@ -45,18 +45,18 @@ pub record Sending (o : Settings) (start : Sender) (first : Asks) (until : Until
   pub p : List ℕ
   pub within : n ≤ length bytes
   pub places : Filled old now p k
-  pub rest : sends o start first until bytes (length old) ≡ before n p (sends o s asks until (drop n bytes) (length old - k))
+  pub rest : runOf o start first until bytes (length old) ≡ before n p (runOf o s asks until (drop n bytes) (length old - k))
 
 module _ (o : Settings) (start : Sender) (first : Asks) (until : Until) (bytes old : List ℕ) where
   pub sending : Sending o start first until bytes old start first 0 old 0
   sending = record { p = []; within = omega arith; places = filled-none old; rest = rw (sub-zero (length old), zero-add) }
 
   module _ (s : Sender) (asks : Asks) (n : ℕ) (now : List ℕ) (k : ℕ) (e : Sending o start first until bytes old s asks n now k) where
-    stops : sends o s asks until (drop n bytes) (length old - k) ≡ stopped s asks
-        → Sends (sends o start first until bytes (length old)) old now (record { sender = s; asks = asks; taken = n; count = k })
+    stops : runOf o s asks until (drop n bytes) (length old - k) ≡ noRun s asks
+        → SendsRun (runOf o start first until bytes (length old)) old now (record { sender = s; asks = asks; taken = n; count = k })
     stops h = rw (e .rest, h) (record { gives = rw (add-zero, append-nil, e .places .count); places = rw append-nil (e .places) })
 
-    pub all-sent : length bytes ≤ n → Sends (sends o start first until bytes (length old)) old now (record { sender = s; asks = asks; taken = n; count = k })
+    pub all-sent : length bytes ≤ n → SendsRun (runOf o start first until bytes (length old)) old now (record { sender = s; asks = asks; taken = n; count = k })
     all-sent h = stops (rw (drop-of-length-le bytes h))
 
     module _ (lt : n < length bytes) where
@@ -64,15 +64,15 @@ module _ (o : Settings) (start : Sender) (first : Asks) (until : Until) (bytes o
       abbrev cs : List ℕ
       cs = items o s (wantedBy asks (getD bytes n 0))
 
-      pub no-room : leb (length cs) (length now - k) ≡ false → Sends (sends o start first until bytes (length old)) old now (record { sender = s; asks = asks; taken = n; count = k })
-      no-room h = stops (rw (drop-cons bytes n 0 lt, ← e .places .same-length, h) (either-way (stopsAt until (getD bytes n 0)) (stopped s asks)))
+      pub no-room : leb (length cs) (length now - k) ≡ false → SendsRun (runOf o start first until bytes (length old)) old now (record { sender = s; asks = asks; taken = n; count = k })
+      no-room h = stops (rw (drop-cons bytes n 0 lt, ← e .places .same-length, h) (either-way (stopsAt until (getD bytes n 0)) (noRun s asks)))
 
-      pub at-stop : stopsAt until (getD bytes n 0) ≡ true → Sends (sends o start first until bytes (length old)) old now (record { sender = s; asks = asks; taken = n; count = k })
+      pub at-stop : stopsAt until (getD bytes n 0) ≡ true → SendsRun (runOf o start first until bytes (length old)) old now (record { sender = s; asks = asks; taken = n; count = k })
       at-stop z = stops (rw (drop-cons bytes n 0 lt, z))
 
       -- one byte more
       pub sends-on : leb (length cs) (length now - k) ≡ true → stopsAt until (getD bytes n 0) ≡ false → (ys : List ℕ) (x : Item)
-          → Puts o s (wantedBy asks (getD bytes n 0)) (midOf k (length now - k) now) ys x
+          → PutsItems o s (wantedBy asks (getD bytes n 0)) (midOf k (length now - k) now) ys x
           → Sending o start first until bytes old (x .sender) (asksNext o asks (getD bytes n 0)) (n + 1) (putMid k (length now - k) now ys) (k + x .count)
       sends-on h z ys x f =
           let b = getD bytes n 0 in
@@ -80,7 +80,7 @@ module _ (o : Settings) (start : Sender) (first : Asks) (until : Until) (bytes o
           let a = length old - k in
           let u : leb (length cs) a ≡ true = rw (e .places .same-length) at h in
           let v : a - length cs ≡ length old - (k + x .count) = omega (arith, f .places .count) in
-          let turn : sends o s asks until (drop n bytes) a ≡ onward cs (sends o (afterItems o s ws) (asksNext o asks b) until (drop (n + 1) bytes) (a - length cs)) = rw (drop-cons bytes n 0 lt, z, u, add-one) in
+          let turn : runOf o s asks until (drop n bytes) a ≡ runOn cs (runOf o (afterItems o s ws) (asksNext o asks b) until (drop (n + 1) bytes) (a - length cs)) = rw (drop-cons bytes n 0 lt, z, u, add-one) in
           record {
             p = e .p ++ cs;
             within = omega arith;
@@ -89,25 +89,25 @@ module _ (o : Settings) (start : Sender) (first : Asks) (until : Until) (bytes o
           }
 
 -- no more bytes than there are
-pub run-within : (o : Settings) (s : Sender) (asks : Asks) (until : Until) (bs : List ℕ) (room : ℕ) → sends o s asks until bs room .taken ≤ length bs
+pub run-within : (o : Settings) (s : Sender) (asks : Asks) (until : Until) (bs : List ℕ) (room : ℕ) → runOf o s asks until bs room .taken ≤ length bs
 run-within o s asks until [] room = omega arith
 run-within o s asks until (b ∷ bs) room = go (stopsAt until b) (leb (length (items o s (wantedBy asks b))) room) (run-within o _ _ until bs _)
   where
     go : (halts fits : Bool)
-        → (let ws = wantedBy asks b in sends o (afterItems o s ws) (asksNext o asks b) until bs (room - length (items o s ws)) .taken ≤ length bs)
-        → (let ws = wantedBy asks b in cond halts (stopped s asks) (cond fits (onward (items o s ws) (sends o (afterItems o s ws) (asksNext o asks b) until bs (room - length (items o s ws)))) (stopped s asks)) .taken) ≤ length (b ∷ bs)
+        → (let ws = wantedBy asks b in runOf o (afterItems o s ws) (asksNext o asks b) until bs (room - length (items o s ws)) .taken ≤ length bs)
+        → (let ws = wantedBy asks b in cond halts (noRun s asks) (cond fits (runOn (items o s ws) (runOf o (afterItems o s ws) (asksNext o asks b) until bs (room - length (items o s ws)))) (noRun s asks)) .taken) ≤ length (b ∷ bs)
     go true fits h = omega arith
     go false true h = omega (arith, h)
     go false false h = omega arith
 
 -- no bytes, no codes
-pub run-none : (o : Settings) (s : Sender) (asks : Asks) (until : Until) (bs : List ℕ) (room : ℕ) → sends o s asks until bs room .taken ≡ 0 → sends o s asks until bs room .codes ≡ []
+pub run-none : (o : Settings) (s : Sender) (asks : Asks) (until : Until) (bs : List ℕ) (room : ℕ) → runOf o s asks until bs room .taken ≡ 0 → runOf o s asks until bs room .codes ≡ []
 run-none o s asks until [] room e = refl
 run-none o s asks until (b ∷ bs) room e = go (stopsAt until b) (leb (length (items o s (wantedBy asks b))) room) e
   where
     go : (halts fits : Bool)
         → let ws = wantedBy asks b in
-        let d = cond halts (stopped s asks) (cond fits (onward (items o s ws) (sends o (afterItems o s ws) (asksNext o asks b) until bs (room - length (items o s ws)))) (stopped s asks)) in d .taken ≡ 0 → d .codes ≡ []
+        let d = cond halts (noRun s asks) (cond fits (runOn (items o s ws) (runOf o (afterItems o s ws) (asksNext o asks b) until bs (room - length (items o s ws)))) (noRun s asks)) in d .taken ≡ 0 → d .codes ≡ []
     go true fits e = refl
     go false true e = absurd (omega (arith, e))
     go false false e = refl

@@ -10,8 +10,8 @@ use lib.ListN.{length, getD, drop, drop-of-length-le, length-append}
 use lib.Seq.{drop-cons}
 use Rattle.sender.specs.Names.{Settings, Sender, Text, Item}
 use Rattle.sender.specs.Item.{items, afterItems, wantedBy, wantedText}
-use Rattle.sender.specs.Sends.{counted}
-use Rattle.sender.proofs.Sends.{items-append, after-append}
+use Rattle.sender.specs.Run.{counted}
+use Rattle.sender.proofs.Append.{items-append, after-append}
 
 -- where the loop is: i bytes are k codes, and the rest is still to come
 pub record Texting (o : Settings) (start : Sender) (text : List ℕ) (s : Sender) (k i : ℕ) : Type 0 where

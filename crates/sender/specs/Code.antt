@@ -7,13 +7,17 @@ use Rattle.settings.specs.Options.{onspace, onreturn}
 use Rattle.sender.specs.Names.{Case, Letters, Figures, Kind, Still, Space, Return, Shift, Char, Settings, Known, Is}
 use Rattle.sender.specs.Names.known
 
+-- two cases are the same
+abbrev pub sameCase : Case → Case → Bool
+sameCase Letters Letters = true
+sameCase Letters Figures = false
+sameCase Figures Letters = false
+sameCase Figures Figures = true
+
 -- the case on record is the wanted one
 abbrev pub isCase : Known → Case → Bool
 isCase known.Unknown want = false
-isCase (Is Letters) Letters = true
-isCase (Is Letters) Figures = false
-isCase (Is Figures) Letters = false
-isCase (Is Figures) Figures = true
+isCase (Is case) want = sameCase case want
 
 -- the right shift if the recorded case differs from the wanted one or is unknown
 abbrev pub shiftTo : Known → Case → List Case

@@ -8,7 +8,7 @@ use Rattle.settings.specs.Options.{onspace, onreturn, filter}
 use Rattle.sender.specs.Names.{Case, Letters, Figures, Kind, Still, Space, Return, Shift, Char, Conversion, Nothing, Free, Cased, Settings, Record, Last, Wanted, Sender, Asks, Text, Codes}
 use Rattle.sender.specs.Names.last
 use Rattle.sender.specs.Record.{unknown, notes}
-use Rattle.sender.specs.Code.{sendAs}
+use Rattle.sender.specs.Code.{sameCase, sendAs}
 use Rattle.sender.specs.Ending.{endingBefore}
 
 -- the ending that is due, then the code with its shifts
@@ -26,10 +26,7 @@ lastOf (Char bell) = last.Other
 abbrev pub repeats : Last → Last → Bool
 repeats last.Other before = false
 repeats (last.Shift to) last.Other = false
-repeats (last.Shift Letters) (last.Shift Letters) = true
-repeats (last.Shift Letters) (last.Shift Figures) = false
-repeats (last.Shift Figures) (last.Shift Letters) = false
-repeats (last.Shift Figures) (last.Shift Figures) = true
+repeats (last.Shift to) (last.Shift before) = sameCase to before
 
 -- option 72 drops it
 abbrev pub item : Settings → Sender → Wanted → List ℕ

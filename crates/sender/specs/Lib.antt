@@ -4,4 +4,4 @@ pub mod Code
 pub mod Ending
 pub mod Item
 pub mod After
-pub mod Sends
+pub mod Run

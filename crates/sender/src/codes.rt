@@ -7,9 +7,9 @@ ghost use lib.Dec.{eqb};
 ghost use lib.ListN.{length};
 ghost use Rattle.laws.specs.Written.{Filled};
 ghost use Rattle.sender.specs.Names.{Letters as Names·Letters};
-ghost use Rattle.sender.specs.Code.{isCase, shiftFor, unshift, follow, sendKind};
+ghost use Rattle.sender.specs.Code.{sameCase, isCase, shiftFor, unshift, follow, sendKind};
 ghost use Rattle.sender.specs.Ending.{onRecord, endingOf, untilZero};
-ghost use Rattle.sender.specs.Sends.{noted, Notes};
+ghost use Rattle.sender.specs.Run.{noted, Notes};
 use crate::Known;
 use crate::Noted;
 use crate::Record;
@@ -18,22 +18,29 @@ use code::Case;
 use code::Kind;
 use settings::Settings;
 
+// Whether two cases are the same.
+pub fn same_case(a: Case, b: Case) -> bool
+    ensures { λ r. ⌜ r ≡ sameCase a b ⌝ }
+{
+    match a {
+        Case::Letters => match b {
+            Case::Letters => true,
+            Case::Figures => false,
+        },
+        Case::Figures => match b {
+            Case::Letters => false,
+            Case::Figures => true,
+        },
+    }
+}
+
 // Whether the case on record is the wanted one.
 fn is_case(n: Known, want: Case) -> bool
     ensures { λ r. ⌜ r ≡ isCase n want ⌝ }
 {
     match n {
         Known::Unknown => false,
-        Known::Is(case) => match case {
-            Case::Letters => match want {
-                Case::Letters => true,
-                Case::Figures => false,
-            },
-            Case::Figures => match want {
-                Case::Letters => false,
-                Case::Figures => true,
-            },
-        },
+        Known::Is(case) => same_case(case, want),
     }
 }
 

@@ -9,7 +9,7 @@ ghost use Rattle.code.specs.Kinds.{kindOf};
 ghost use Rattle.settings.specs.Options.{filter};
 ghost use Rattle.sender.specs.Ending.{due, ending};
 ghost use Rattle.sender.specs.Item.{character, lastOf, repeats, items};
-ghost use Rattle.sender.specs.Sends.{noted, counted, Notes, Puts};
+ghost use Rattle.sender.specs.Run.{noted, counted, Notes, PutsItems};
 use crate::Column;
 use crate::Item;
 use crate::Last;
@@ -21,8 +21,8 @@ use crate::codes::count_code;
 use crate::codes::count_ending;
 use crate::codes::put_code;
 use crate::codes::put_ending;
+use crate::codes::same_case;
 use crate::records::after;
-use code::Case;
 use code::Kind;
 use settings::Settings;
 
@@ -115,22 +115,6 @@ fn last_of(k: Kind) -> Last
     }
 }
 
-// Whether two cases are the same.
-fn same(a: Case, b: Case) -> bool
-    ensures { λ r. ⌜ r ≡ repeats (Last.Shift a) (Last.Shift b) ⌝ }
-{
-    match a {
-        Case::Letters => match b {
-            Case::Letters => true,
-            Case::Figures => false,
-        },
-        Case::Figures => match b {
-            Case::Letters => false,
-            Case::Figures => true,
-        },
-    }
-}
-
 // Whether an item is a shift, and the one before it the same shift.
 fn repeats(this: Last, was: Last) -> bool
     ensures { λ r. ⌜ r ≡ repeats this was ⌝ }
@@ -139,7 +123,7 @@ fn repeats(this: Last, was: Last) -> bool
         Last::Other => false,
         Last::Shift(to) => match was {
             Last::Other => false,
-            Last::Shift(other) => same(to, other),
+            Last::Shift(other) => same_case(to, other),
         },
     }
 }
@@ -180,7 +164,7 @@ pub fn count_item(o: Settings, s: Sender, w: Wanted) -> Item
 // One item.
 pub fn put_item(o: Settings, s: Sender, w: Wanted, out: &mut [u8]) -> Item
     requires { ⌜ length (items o s (w ∷ [])) ≤ length (now out) ⌝ }
-    ensures { λ r. ⌜ Puts o s (w ∷ []) (now (out .entry)) (now (out .exit)) r ⌝ }
+    ensures { λ r. ⌜ PutsItems o s (w ∷ []) (now (out .entry)) (now (out .exit)) r ⌝ }
 {
     let held = s.held;
     let before = s.last;

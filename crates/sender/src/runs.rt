@@ -5,7 +5,7 @@ ghost use lib.Dec.{leb};
 ghost use lib.ListN.{length};
 ghost use Rattle.convert.specs.Entry.{Tabled};
 ghost use Rattle.sender.specs.Item.{items, wantedOf, converted, wantedBy, wantedText, unshiftedBy, incoming};
-ghost use Rattle.sender.specs.Sends.{counted, isNone, wantedAs, asksNext, stopsAt, Puts, sends, Sends};
+ghost use Rattle.sender.specs.Run.{counted, isNone, wantedAs, asksNext, stopsAt, PutsItems, runOf, SendsRun};
 use crate::Asks;
 use crate::Item;
 use crate::Sender;
@@ -161,7 +161,7 @@ fn has_room(o: Settings, s: Sender, asks: Asks, b: u8, room: usize) -> bool
 // The item of a byte, if it has a code.
 fn put_asked(o: Settings, s: Sender, x: Conversion, out: &mut [u8]) -> Item
     requires { ⌜ length (items o s (wantedOf x)) ≤ length (now out) ⌝ }
-    ensures { λ r. ⌜ Puts o s (wantedOf x) (now (out .entry)) (now (out .exit)) r ⌝ }
+    ensures { λ r. ⌜ PutsItems o s (wantedOf x) (now (out .entry)) (now (out .exit)) r ⌝ }
 {
     if is_none(x) {
         return Item {
@@ -194,7 +194,7 @@ pub fn send(
     out: &mut [u8],
 ) -> Sent
     ensures { λ r. ⌜
-        Sends (sends o start first until (now (bytes .entry)) (length (now (out .entry)))) (now (out .entry)) (now (out .exit)) r
+        SendsRun (runOf o start first until (now (bytes .entry)) (length (now (out .entry)))) (now (out .entry)) (now (out .exit)) r
         ⌝ }
 {
     let table = convert::table();

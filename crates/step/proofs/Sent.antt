@@ -10,8 +10,8 @@ use lib.ListN.{length, length-append}
 use Rattle.sender.specs.declared.Item.{Item}
 use Rattle.sender.specs.declared.Sent.{Sent}
 use Rattle.sender.specs.Item.{items, afterItems, wanted, wantedBy, wantedText}
-use Rattle.sender.specs.Sends.{counted, Run, sends as codesSent, Sends}
-use Rattle.sender.proofs.Sends.{items-append}
+use Rattle.sender.specs.Run.{counted, Run, runOf, SendsRun}
+use Rattle.sender.proofs.Append.{items-append}
 use Rattle.step.specs.Names.{Case, Settings, Wanted, Sender, Text, Codes, Never, State}
 use Rattle.step.specs.State.{withSender}
 use Rattle.step.specs.Step.{sends}
@@ -20,7 +20,7 @@ use Rattle.step.specs.Byte.{Puts, noRoom}
 module _ (o : Settings) where
   -- host text
   pub text-sent : (s : Sender) (bs : List ℕ) (room : ℕ) → length (items o s (wantedText bs)) ≤ room
-      → codesSent o s Text Never bs room .codes ≡ items o s (wantedText bs)
+      → runOf o s Text Never bs room .codes ≡ items o s (wantedText bs)
   text-sent s [] room h = refl
   text-sent s (b ∷ bs) room h =
       let ws = wantedBy Text b in
@@ -33,7 +33,7 @@ module _ (o : Settings) where
 
   -- one TU code
   pub code-sent : (s : Sender) (case : Case) (c room : ℕ) → length (items o s (wanted case c ∷ [])) ≤ room
-      → codesSent o s (Codes case) Never (c ∷ []) room .codes ≡ items o s (wanted case c ∷ [])
+      → runOf o s (Codes case) Never (c ∷ []) room .codes ≡ items o s (wanted case c ∷ [])
   code-sent s case c room h = rw (le-leb (length (items o s (wanted case c ∷ []))) room h, append-nil (items o s (wanted case c ∷ [])))
 
 -- what does not fit
@@ -51,7 +51,7 @@ module _ (s : State) (ws : List Wanted) (x : Item) (e : x ≡ counted (s .settin
   pub held-back : length old < x .count → Puts (sends s ws .state) (sends s ws .line) old old (noRoom t)
   held-back h = rw after (unfit (sends s ws .state) (sends s ws .line) old (omega (arith, h, counts)))
 
-  pub put : (d : Run) (now : List ℕ) (y : Sent) → x .count ≤ length old → (length (sends s ws .line) ≤ length old → d .codes ≡ sends s ws .line) → Sends d old now y
+  pub put : (d : Run) (now : List ℕ) (y : Sent) → x .count ≤ length old → (length (sends s ws .line) ≤ length old → d .codes ≡ sends s ws .line) → SendsRun d old now y
       → Puts (sends s ws .state) (sends s ws .line) old now (record { fits = true; state = t; count = y .count })
   put d now y h same p =
       let u : length (sends s ws .line) ≤ length old = omega (arith, h, counts) in

@@ -16,8 +16,8 @@ enum-told-2 c = search needs
 enum-known-was : tie.Need-enum-known-was
 enum-known-was c = search needs
 
-same-requires : tie.Need-same-requires
-same-requires c κs = search needs
+same-case-requires : tie.Need-same-case-requires
+same-case-requires c κs = search needs
 
 returns : tie.Need-returns
 returns c = search needs
@@ -26,7 +26,7 @@ returns-2 : tie.Need-returns-2
 returns-2 c = search needs
 
 returns-3 : tie.Need-returns-3
-returns-3 c = simp (c .before .before .before .before .before .this .given .1, c .before .before .was .given .1, c .same .ensures)
+returns-3 c = simp (c .before .before .before .before .before .this .given .1, c .before .before .was .given .1, c .same-case .ensures)
 
 pub repeats-spec : {M : Type 1} → statement M
 repeats-spec =
@@ -36,7 +36,7 @@ repeats-spec =
     enum-known-this
     enum-told-2
     enum-known-was
-    same-requires
+    same-case-requires
     returns
     returns-2
     returns-3)

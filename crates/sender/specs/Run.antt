@@ -25,7 +25,7 @@ pub record Notes (o : Settings) (start : Record) (codes old now : List ℕ) (r :
   pub places : Filled old now codes (r .count)
 
 -- items at the front of a buffer
-pub record Puts (o : Settings) (s : Sender) (ws : List Wanted) (old now : List ℕ) (r : Item) : Type 0 where
+pub record PutsItems (o : Settings) (s : Sender) (ws : List Wanted) (old now : List ℕ) (r : Item) : Type 0 where
   pub sender : r .sender ≡ afterItems o s ws
   pub places : Filled old now (items o s ws) (r .count)
 
@@ -59,22 +59,23 @@ pub record Run : Type 0 where
   pub taken : ℕ
   pub codes : List ℕ
 
-abbrev pub stopped : Sender → Asks → Run
-stopped s asks = record { sender = s; asks = asks; taken = 0; codes = [] }
+-- no byte
+abbrev pub noRun : Sender → Asks → Run
+noRun s asks = record { sender = s; asks = asks; taken = 0; codes = [] }
 
 -- one byte's codes, and then the others
-abbrev pub onward : List ℕ → Run → Run
-onward cs d = record { sender = d .sender; asks = d .asks; taken = suc (d .taken); codes = cs ++ d .codes }
+abbrev pub runOn : List ℕ → Run → Run
+runOn cs d = record { sender = d .sender; asks = d .asks; taken = suc (d .taken); codes = cs ++ d .codes }
 
 -- the bytes one after the other, as long as all codes of the next one fit, and up to one that stops them
-abbrev pub sends : Settings → Sender → Asks → Until → List ℕ → ℕ → Run
-sends o s asks until [] room = stopped s asks
-sends o s asks until (b ∷ bs) room =
+abbrev pub runOf : Settings → Sender → Asks → Until → List ℕ → ℕ → Run
+runOf o s asks until [] room = noRun s asks
+runOf o s asks until (b ∷ bs) room =
     let ws = wantedBy asks b in
-    cond (stopsAt until b) (stopped s asks)
-    (cond (leb (length (items o s ws)) room) (onward (items o s ws) (sends o (afterItems o s ws) (asksNext o asks b) until bs (room - length (items o s ws)))) (stopped s asks))
+    cond (stopsAt until b) (noRun s asks)
+    (cond (leb (length (items o s ws)) room) (runOn (items o s ws) (runOf o (afterItems o s ws) (asksNext o asks b) until bs (room - length (items o s ws)))) (noRun s asks))
 
 -- what the caller is told of it, and the buffer
-pub record Sends (d : Run) (old now : List ℕ) (r : Sent) : Type 0 where
+pub record SendsRun (d : Run) (old now : List ℕ) (r : Sent) : Type 0 where
   pub gives : r ≡ record { sender = d .sender; asks = d .asks; taken = d .taken; count = length (d .codes) }
   pub places : Filled old now (d .codes) (r .count)
