@@ -8,13 +8,13 @@ use mathlib.Core.List.{List, []}
 use lib.ListN.{length, getD}
 use Rattle.laws.proofs.Both.{both}
 use Rattle.laws.specs.Written.{fronted}
-use Rattle.step.specs.State.{formed, sound}
+use Rattle.step.specs.State.{sound}
 use Rattle.step.proofs.Stays.{sound-run}
 use Rattle.linebox.specs.Call.{Done, call, stopped}
 use Rattle.linebox.specs.Ends.{events}
 use Rattle.spelling.specs.declared.Loaded.{Loaded}
 use Rattle.spelling.specs.Spelling.{spells, spelt, stateOf}
-use Rattle.spelling.proofs.ReadBack.{read-back}
+use Rattle.spelling.proofs.ReadBack.{sound-formed, read-back}
 use Rattle.board.specs.Calls.{spellsSound, after, asked, Boards, BoardsOne}
 use Rattle.board.proofs.Asked.{three}
 use Rattle.demands.specs.Box.{Result, resulting, ours}
@@ -28,7 +28,7 @@ use Rattle.onboard.specs.OneCall.{Wire, PromisedBy, Promised, seen, OneC
 
 pub spelt-back : (s : State) → sound s ≡ true → (spells (spelt s) ≡ true) × (stateOf (spelt s) ≡ s)
 spelt-back s h =
-    let e = read-back s (both (formed s) _ h .0) in
+    let e = read-back s (sound-formed s h) in
     (ap (λ (x : Loaded). x .spelt) e, ap (λ (x : Loaded). x .state) e)
 
 -- What the promises of the three calls have in common: all follows what the bytes ask for.

@@ -6,6 +6,11 @@ use mathlib.Core.Bool.{Bool, true, false}
 use mathlib.Core.List.{List, [], _∷_}
 use lib.Dec.{eqb}
 use lib.ListN.{length, getD}
+use Rattle.settings.specs.Table.{options}
+use Rattle.settings.specs.Options.{endingCodes}
+use Rattle.settings.proofs.Held.{length-in, values-in, eight-codes}
+use Rattle.step.specs.State.{sound}
+use Rattle.step.proofs.Stays.{sound-parts}
 use Rattle.spelling.specs.Names.{Case, Letters, Figures, Verb, Write, Read, Other, Form, Empty, Digits, Ex, Stage, Text, Swallow, Held, Begun, Lettered, Typed, Fields, Discard, Known, Is, Column, At, Last, Shift, State, Loaded}
 use Rattle.spelling.specs.Names.known
 use Rattle.spelling.specs.Names.column
@@ -89,6 +94,13 @@ state-back s h =
 pub read-back : (s : State) → Formed s → loaded (spelt s) ≡ record { spelt = true; state = s }
 unfolding spells
 read-back s f = rw (state-back s f, same-self (spelt s))
+
+-- a sound state is of that form
+pub sound-formed : (s : State) → sound s ≡ true → Formed s
+unfolding endingCodes
+sound-formed s h =
+    let p = sound-parts s h in
+    record { six = length-in options (s .settings .values) (values-in (s .settings) (p .held .settings)); eight = eight-codes (s .settings) (p .held .settings); eleven = p .eleven }
 
 -- so no such state's spelling is refused
 pub none-refused : (b : List ℕ) (s : State) → Formed s → b ≡ spelt s → spells b ≡ true
