@@ -11,7 +11,7 @@ use Rattle.linebox.specs.Call.{firstOf, secondOf, refuses, fits, Done, stopped,
 use Rattle.linebox.specs.Ends.{firstsOf}
 use Rattle.demands.specs.Names.{State, Stream, Host}
 use Rattle.demands.specs.Box.{Box, resulting}
-use Rattle.demands.specs.Traces.{endings}
+use Rattle.demands.specs.Traces.{endingsOn}
 
 abbrev pub forgetting : State → State
 forgetting s = withSender s (record { held = unknown; last = s .sender .last })
@@ -36,7 +36,7 @@ forgetful t s xs one two = resulting (cond (sound s) (forgetTaking t s xs (lengt
 -- Where it goes wrong: in mode 1 with limit 10 and 49 on, a return and eleven spaces.
 
 abbrev pub ready : State
-ready = call Host freshBox endings 0 200 .state
+ready = call Host freshBox endingsOn 0 200 .state
 
 abbrev pub spaces : List ℕ
 spaces = 13 ∷ replicate 11 32
