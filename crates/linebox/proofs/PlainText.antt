@@ -15,14 +15,13 @@ use Rattle.command.specs.declared.Stage.the-variants as stage
 use Rattle.command.specs.Read.{read, readAt, afresh, at, idle}
 use Rattle.code.specs.Kinds.{kindOf}
 use Rattle.sender.specs.Item.{items, wantedBy, wantedText}
-use Rattle.sender.specs.Run.{asksNext, stopsAt, Run, runOf, SendsRun}
+use Rattle.sender.specs.Run.{asksNext, caseAsked, stopsAt, Run, runOf, SendsRun}
 use Rattle.sender.specs.declared.Sent.{Sent}
 use Rattle.linebox.specs.Names.{Case, Route, Dropped, ToPrinter, ToHost, ToTu, Settings, Sender, Asks, Text, Codes, Byte, Above, One, State, Stream, Host, Tu, Ran}
 use Rattle.step.specs.State.{sound, withReader, withSender, withIncoming}
 use Rattle.step.specs.Step.{Step, sends, text, hosted, hostStep, tued, tuStep, carried, step}
 use Rattle.linebox.specs.Call.{firstOf, secondOf, refuses, fits, Done, before, taking}
 use Rattle.linebox.specs.Plain.{isText}
-use Rattle.step.specs.Step.{caseOf}
 use Rattle.step.specs.Route.{route, isPrinter}
 use Rattle.sender.proofs.Sending.{run-within, run-none}
 use Rattle.linebox.specs.Call.{Runs}
@@ -134,7 +133,7 @@ module _ (s : State) (ok : sound s ≡ true) (m : isPrinter (route (s .connectio
 
 -- the state in a run of codes
 abbrev pub coding : State → Sender → Asks → State
-coding s x a = withSender (withIncoming s (caseOf a)) x
+coding s x a = withSender (withIncoming s (caseAsked a)) x
 
 open-codes : (k : Route) (s : State) (c : ℕ) → isPrinter k ≡ true → tued k s c ≡ carried s c
 open-codes Dropped s c h = absurd (false≢true h)

@@ -14,7 +14,6 @@ use sender::Until;
 use step::State;
 use step::Stream;
 use step::routes::prints;
-use step::sends::case_of;
 use step::states::with_incoming;
 use step::states::with_reader;
 use step::states::with_sender;
@@ -100,7 +99,7 @@ fn run_codes(s: State, codes: &[u8], line: &mut [u8]) -> Ran
     let after = x.sender;
     let asks = x.asks;
     Ran {
-        state: with_sender(with_incoming(s, case_of(asks)), after),
+        state: with_sender(with_incoming(s, sender::runs::case_asked(asks)), after),
         taken: x.taken,
         count: x.count,
     }

@@ -7,7 +7,7 @@ use lib.Dec.{eqb, leb, ltb}
 use lib.ListN.{length}
 use Rattle.laws.specs.Written.{fronted, Filled}
 use Rattle.code.specs.Kinds.{kindOf}
-use Rattle.sender.specs.Names.{Letters, Conversion, Nothing, Free, Cased, Settings, Record, Wanted, Sender, Asks, Text, Codes, Until, Never, Byte, Above, Noted, Item, Sent}
+use Rattle.sender.specs.Names.{Case, Letters, Conversion, Nothing, Free, Cased, Settings, Record, Wanted, Sender, Asks, Text, Codes, Until, Never, Byte, Above, Noted, Item, Sent}
 use Rattle.sender.specs.Record.{notes}
 use Rattle.sender.specs.Item.{items, afterItems, wanted, wantedBy, incoming}
 
@@ -45,6 +45,11 @@ wantedAs (Cased case c) = wanted case c
 abbrev pub asksNext : Settings → Asks → ℕ → Asks
 asksNext o Text b = Text
 asksNext o (Codes case) c = Codes (incoming o case (kindOf c))
+
+-- the incoming reading case that the next code asks in
+abbrev pub caseAsked : Asks → Case
+caseAsked Text = Letters
+caseAsked (Codes case) = case
 
 -- whether a run stops before this byte
 abbrev pub stopsAt : Until → ℕ → Bool

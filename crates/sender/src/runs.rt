@@ -5,7 +5,7 @@ ghost use lib.Dec.{leb};
 ghost use lib.ListN.{length};
 ghost use Rattle.convert.specs.Entry.{Tabled};
 ghost use Rattle.sender.specs.Item.{items, wantedOf, converted, wantedBy, wantedText, unshiftedBy, incoming};
-ghost use Rattle.sender.specs.Run.{counted, isNone, wantedAs, asksNext, stopsAt, PutsItems, runOf, SendsRun};
+ghost use Rattle.sender.specs.Run.{counted, isNone, wantedAs, asksNext, caseAsked, stopsAt, PutsItems, runOf, SendsRun};
 use crate::Asks;
 use crate::Item;
 use crate::Sender;
@@ -46,6 +46,16 @@ fn next_asks(o: Settings, asks: Asks, b: u8) -> Asks
     match asks {
         Asks::Text => Asks::Text,
         Asks::Codes(case) => Asks::Codes(incoming(o, case, code::kind_of(b))),
+    }
+}
+
+// The incoming reading case that the next code asks in.
+pub fn case_asked(asks: Asks) -> Case
+    ensures { λ r. ⌜ r ≡ caseAsked asks ⌝ }
+{
+    match asks {
+        Asks::Text => Case::Letters,
+        Asks::Codes(case) => case,
     }
 }
 

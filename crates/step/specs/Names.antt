@@ -19,6 +19,5 @@ pub use Rattle.step.specs.declared.Route.{Route}
 pub use Rattle.step.specs.declared.Route.the-variants.{Dropped, ToPrinter, ToHost, ToTu}
 pub use Rattle.step.specs.declared.Took.{Took}
 pub use Rattle.step.specs.declared.Taken.{Taken}
-pub use Rattle.sender.specs.declared.Asks.{Asks}
 pub use Rattle.sender.specs.declared.Asks.the-variants.{Text, Codes}
 pub use Rattle.sender.specs.declared.Until.the-variants.{Never}

@@ -10,7 +10,7 @@ use Rattle.command.specs.Read.{read, textOf}
 use Rattle.settings.specs.Command.{commanded}
 use Rattle.settings.specs.Options.{reports}
 use Rattle.sender.specs.Item.{items, afterItems, wanted, wantedText, incoming}
-use Rattle.step.specs.Names.{Asks, Text, Codes, Case, Letters, Kind, Still, Space, Return, Shift, Char, Reader, Out, Nothing, One, Two, Finished, Route, Dropped, ToPrinter, ToHost, ToTu, Outcome, Wanted, State, Stream, Host, Line, Tu}
+use Rattle.step.specs.Names.{Case, Kind, Still, Space, Return, Shift, Char, Reader, Out, Nothing, One, Two, Finished, Route, Dropped, ToPrinter, ToHost, ToTu, Outcome, Wanted, State, Stream, Host, Line, Tu}
 use Rattle.step.specs.Route.{route}
 use Rattle.step.specs.State.{withReader, withSender, withReading, withIncoming, withStored}
 
@@ -91,11 +91,6 @@ lineStep s c = lined (route (s .connection) Line) s c
 -- an item, the wanted case being the incoming reading case
 abbrev pub carried : State → ℕ → Step
 carried s c = sends (withIncoming s (incoming (s .settings) (s .incoming) (kindOf c))) (wanted (s .incoming) c ∷ [])
-
--- the incoming reading case that codes ask in
-abbrev pub caseOf : Asks → Case
-caseOf Text = Letters
-caseOf (Codes case) = case
 
 -- TU codes on their route
 abbrev pub tued : Route → State → ℕ → Step

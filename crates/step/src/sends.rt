@@ -5,7 +5,7 @@ ghost use lib.ListN.{length};
 ghost use Rattle.sender.specs.Item.{wantedText};
 ghost use Rattle.step.specs.Names.{Host as Names·Host};
 ghost use Rattle.step.specs.Route.{route};
-ghost use Rattle.step.specs.Step.{sends, text, carried, caseOf, tuStep};
+ghost use Rattle.step.specs.Step.{sends, text, carried, tuStep};
 ghost use Rattle.step.specs.Byte.{Puts};
 use crate::Route;
 use crate::State;
@@ -16,7 +16,6 @@ use crate::puts::none;
 use crate::routes::route;
 use crate::states::with_incoming;
 use crate::states::with_sender;
-use code::Case;
 use sender::Asks;
 use sender::Until;
 
@@ -56,16 +55,6 @@ pub fn put_text(s: State, bytes: &[u8], out: &mut [u8]) -> Took
         Route::ToPrinter => put_items(s, bytes, out),
         Route::ToHost => none(s),
         Route::ToTu => none(s),
-    }
-}
-
-// The incoming reading case that codes ask in.
-pub fn case_of(asks: Asks) -> Case
-    ensures { λ r. ⌜ r ≡ caseOf asks ⌝ }
-{
-    match asks {
-        Asks::Text => Case::Letters,
-        Asks::Codes(case) => case,
     }
 }
 

@@ -9,8 +9,8 @@ use Rattle.linebox.proofs.runs.run_codes.Tie as tie
 send-requires : tie.Need-send-requires
 send-requires c κs = search needs
 
-case-of-requires : tie.Need-case-of-requires
-case-of-requires c κs = search needs
+case-asked-requires : tie.Need-case-asked-requires
+case-asked-requires c κs = search needs
 
 with-incoming-requires : tie.Need-with-incoming-requires
 with-incoming-requires c κs = search needs
@@ -26,7 +26,7 @@ returns c =
     let d = c .before .before .before .before .before .before in
     let b = d .before .before .before .before .before .before in
     let a = b .args in
-    rw (c .with-sender .ensures, c .before .with-incoming .ensures, c .before .before .case-of .ensures)
+    rw (c .with-sender .ensures, c .before .with-incoming .ensures, c .before .before .case-asked .ensures)
     (codes-run (a .s) (b .pre .0) (b .pre .1) (now (a .codes)) (now (a .line)) _ (d .send .result) (d .send .ensures))
 
 pub run-codes-spec : {M : Type 1} → statement M
@@ -34,7 +34,7 @@ run-codes-spec =
     tie.close
     (tie.spec
     send-requires
-    case-of-requires
+    case-asked-requires
     with-incoming-requires
     with-sender-requires
     same-length
