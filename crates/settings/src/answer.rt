@@ -7,6 +7,7 @@ use crate::Connection;
 use crate::Home;
 use crate::Outcome;
 use crate::Row;
+use crate::Settings;
 use crate::Stored;
 use crate::table::connects;
 use crate::table::row;
@@ -67,11 +68,12 @@ fn version(stored: Stored, id: u8) -> Outcome
 }
 
 // The value at a place.
-fn value_at(values: [u8; 6], place: u8) -> u8
-    ensures { λ r. ⌜ r ≡ getD values place 0 ⌝ }
+fn value_at(s: Settings, place: u8) -> u8
+    ensures { λ r. ⌜ r ≡ getD (s .values) place 0 ⌝ }
 {
+    let values = s.values;
     let i = place as usize;
-    if i < 6 { values[i] } else { 0 }
+    if i < values.len() { values[i] } else { 0 }
 }
 
 // The row that answers: the connection answers under its mode's own id.
@@ -90,13 +92,12 @@ fn tell(stored: Stored, r: Row) -> Outcome
     let c = stored.connection;
     let id = r.number;
     let home = r.home;
-    let values = s.values;
     let string = s.string;
     match home {
         Home::Version => version(stored, id),
         Home::Linked(_) => two(stored, id, c.port, c.speed),
         Home::Unlinked => none(stored, id),
-        Home::Value(place, _, _) => one(stored, id, value_at(values, place)),
+        Home::Value(place, _, _) => one(stored, id, value_at(s, place)),
         Home::String => eight(stored, id, string),
         Home::Factory => none(stored, id),
         Home::Nowhere => none(stored, id),

@@ -21,9 +21,10 @@ fn option_sound(id: u8, value: u8) -> bool
 }
 
 // Whether each option's value is in its range.
-fn values_sound(v: [u8; 6]) -> bool
-    ensures { λ r. ⌜ r ≡ allIn options v ⌝ }
+fn values_sound(s: Settings) -> bool
+    ensures { λ r. ⌜ r ≡ allIn options (s .values) ⌝ }
 {
+    let v = s.values;
     option_sound(49, v[0])
         & (option_sound(50, v[1])
             & (option_sound(70, v[2])
@@ -34,9 +35,8 @@ fn values_sound(v: [u8; 6]) -> bool
 pub fn settings_sound(s: Settings) -> bool
     ensures { λ r. ⌜ r ≡ soundSettings s ⌝ }
 {
-    let values = s.values;
     let string = s.string;
-    values_sound(values) & sound_string(string)
+    values_sound(s) & sound_string(string)
 }
 
 // Whether port and speed are in a mode's range.

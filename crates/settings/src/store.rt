@@ -16,7 +16,7 @@ impl Settings {
         ensures { λ r. ⌜ r ≡ withValue self place x ⌝ }
     {
         let i = place as usize;
-        if i < 6 {
+        if i < self.values.len() {
             self.values[i] = x;
         }
         self

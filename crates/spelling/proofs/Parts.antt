@@ -8,7 +8,7 @@ use lib.ListN.{set, replicate}
 use mir.Val.{boolByte}
 use Rattle.spelling.specs.Names.{Stage, Text, Swallow, Held, Begun, Lettered, Typed, Fields, Discard, Column, At, State}
 use Rattle.spelling.specs.Names.column
-use Rattle.spelling.specs.Spelling.{part, bit, caseByte, knownByte, lastByte, settingsBytes, connectionBytes, columnBytes, stageBytes, spare, spelt, puts}
+use Rattle.spelling.specs.Spelling.{part, bit, caseByte, knownByte, lastByte, offsets, setsAt, stringBytes, connectionBytes, columnBytes, stageBytes, spare, spelt, puts}
 
 pub as-bit : (b : Bool) → boolByte b ≡ bit b
 as-bit true = refl
@@ -35,11 +35,12 @@ module _ (s : State) where
 
   abbrev filled : List ℕ → List ℕ → List ℕ
   filled y z =
-      let front = puts (puts (puts (replicate 128 0) 0 (settingsBytes (s .settings))) 14 (connectionBytes (s .connection))) 17 (sender y) in
+      let front = puts (puts (setsAt (puts (replicate 128 0) 6 (stringBytes (s .settings))) offsets 0 (s .settings .values)) 14 (connectionBytes (s .connection))) 17 (sender y) in
       puts (puts (set (set front 21 (caseByte (s .reading))) 22 (caseByte (s .incoming))) 23 z) 27 (part (s .reader .values) 0 11)
 
   abbrev pub laid : List ℕ → List ℕ → List ℕ
-  laid y z = settingsBytes (s .settings) ++ (connectionBytes (s .connection) ++ (sender y ++ (caseByte (s .reading) ∷ caseByte (s .incoming) ∷ (z ++ part (s .reader .values) 0 11) ++ spare)))
+  laid y z =
+      setsAt (replicate 6 0 ++ (stringBytes (s .settings) ++ (connectionBytes (s .connection) ++ (sender y ++ (caseByte (s .reading) ∷ caseByte (s .incoming) ∷ (z ++ part (s .reader .values) 0 11) ++ spare))))) offsets 0 (s .settings .values)
 
   abbrev pub bytes : List ℕ
   bytes = filled (columnBytes (s .sender .held .column)) (stageBytes (s .reader .stage))

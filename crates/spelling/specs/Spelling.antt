@@ -43,9 +43,18 @@ formByte Empty = 0
 formByte Digits = 1
 formByte Ex = 2
 
--- 0 to 5 options 49, 50, 70, 71, 72 and 74, and 6 to 13 string 90
-abbrev pub settingsBytes : Settings → List ℕ
-settingsBytes o = part (o .values) 0 6 ++ part (o .string) 0 8
+-- the byte of each option, in the table's order: 49, 50, 70, 71, 72, 74
+abbrev pub offsets : List ℕ
+offsets = 0 ∷ 1 ∷ 2 ∷ 3 ∷ 4 ∷ 5 ∷ []
+
+-- the values from place i on, each at its offset
+abbrev pub setsAt : List ℕ → List ℕ → ℕ → List ℕ → List ℕ
+setsAt b [] i vs = b
+setsAt b (o ∷ os) i vs = setsAt (set b o (getD vs i 0)) os (suc i) vs
+
+-- 6 to 13: string 90
+abbrev pub stringBytes : Settings → List ℕ
+stringBytes o = part (o .string) 0 8
 
 -- 14 to 16: the connection's mode, port and speed
 abbrev pub connectionBytes : Connection → List ℕ
@@ -79,9 +88,13 @@ readerBytes r = stageBytes (r .stage) ++ part (r .values) 0 11
 abbrev pub spare : List ℕ
 spare = replicate 90 0
 
--- the whole state; 21 and 22 are the reading cases
+-- all but the options; 21 and 22 are the reading cases
+abbrev pub besides : State → List ℕ
+besides s = replicate 6 0 ++ (stringBytes (s .settings) ++ (connectionBytes (s .connection) ++ (senderBytes (s .sender) ++ (caseByte (s .reading) ∷ caseByte (s .incoming) ∷ readerBytes (s .reader) ++ spare))))
+
+-- the whole state
 unfoldable pub spelt : State → List ℕ
-spelt s = settingsBytes (s .settings) ++ (connectionBytes (s .connection) ++ (senderBytes (s .sender) ++ (caseByte (s .reading) ∷ caseByte (s .incoming) ∷ readerBytes (s .reader) ++ spare)))
+spelt s = setsAt (besides s) offsets 0 (s .settings .values)
 
 -- Bytes as fields. A byte that no field's value has reads as some value: it is the spelling that tells.
 
@@ -103,8 +116,13 @@ verbOf n = cond (eqb n 1) Write (cond (eqb n 2) Read Other)
 abbrev pub formOf : ℕ → Form
 formOf n = cond (eqb n 1) Digits (cond (eqb n 2) Ex Empty)
 
+-- the bytes at offsets
+abbrev pub pick : List ℕ → List ℕ → List ℕ
+pick b [] = []
+pick b (o ∷ os) = getD b o 0 ∷ pick b os
+
 abbrev pub settingsOf : List ℕ → Settings
-settingsOf b = record { values = part b 0 6; string = part b 6 8 }
+settingsOf b = record { values = pick b offsets; string = part b 6 8 }
 
 abbrev pub connectionOf : List ℕ → Connection
 connectionOf b = record { mode = getD b 14 0; port = getD b 15 0; speed = getD b 16 0 }

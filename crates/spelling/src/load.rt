@@ -105,7 +105,7 @@ fn stage_of(n: u8, x: u8, y: u8, z: u8) -> Stage
     }
 }
 
-// The settings, from offset 0 on.
+// The settings: each option from its offset, and string 90 from offset 6 on.
 fn settings_of(b: [u8; 128]) -> Settings
     ensures { λ r. ⌜ r ≡ settingsOf b ⌝ }
 {

@@ -1,7 +1,7 @@
 // The spelling of a state: each field at its offset.
 ghost use mathlib.Core.Path.{_≡_};
 ghost use mathlib.Core.List.{[], _∷_};
-ghost use Rattle.spelling.specs.Spelling.{caseByte, columnBytes, connectionBytes, formByte, knownByte, lastByte, part, puts, senderBytes, settingsBytes, spelt, stageBytes, verbByte};
+ghost use Rattle.spelling.specs.Spelling.{caseByte, columnBytes, connectionBytes, formByte, knownByte, lastByte, part, offsets, puts, senderBytes, setsAt, spelt, stageBytes, stringBytes, verbByte};
 use code::Case;
 use command::Form;
 use command::Stage;
@@ -92,19 +92,13 @@ fn stage_bytes(s: Stage) -> [u8; 4]
     }
 }
 
-// The settings, from offset 0 on.
+// The settings: string 90 from offset 6 on, and each option at its offset.
 fn with_settings(b: [u8; 128], s: Settings) -> [u8; 128]
-    ensures { λ r. ⌜ r ≡ puts b 0 (settingsBytes s) ⌝ }
+    ensures { λ r. ⌜ r ≡ setsAt (puts b 6 (stringBytes s)) offsets 0 (s .values) ⌝ }
 {
     let mut bytes = b;
     let values = s.values;
     let string = s.string;
-    bytes[0] = values[0];
-    bytes[1] = values[1];
-    bytes[2] = values[2];
-    bytes[3] = values[3];
-    bytes[4] = values[4];
-    bytes[5] = values[5];
     bytes[6] = string[0];
     bytes[7] = string[1];
     bytes[8] = string[2];
@@ -113,6 +107,12 @@ fn with_settings(b: [u8; 128], s: Settings) -> [u8; 128]
     bytes[11] = string[5];
     bytes[12] = string[6];
     bytes[13] = string[7];
+    bytes[0] = values[0];
+    bytes[1] = values[1];
+    bytes[2] = values[2];
+    bytes[3] = values[3];
+    bytes[4] = values[4];
+    bytes[5] = values[5];
     bytes
 }
 

@@ -65,7 +65,7 @@ returns-4 c = simp (c .before .before .before .home .given .1, c .one .ensures, 
 
 returns-5 : tie.Need-returns-5
 returns-5 c =
-    let n : length (c .before .before .before .before .before .before .before .args .stored .settings .string) ≡ 8 = search needs in
+    let n : length (c .before .before .before .before .before .before .args .stored .settings .string) ≡ 8 = search needs in
     simp (c .before .enum-told4 .given .1, c .eight .ensures, n)
 
 returns-6 : tie.Need-returns-6

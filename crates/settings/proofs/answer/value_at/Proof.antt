@@ -15,8 +15,9 @@ returns c = search needs
 
 returns-2 : tie.Need-returns-2
 returns-2 c =
-    let n : length (c .before .args .t1) ≡ 6 = c .before .good .0 .1 .0 .1 in
-    sym (List·getD-eq-default (c .before .args .t1) 0 (omega arith))
+    let v = c .before .before .args .s .values in
+    let n : length v ≡ 6 = search needs in
+    sym (List·getD-eq-default v 0 (omega arith))
 
 pub value-at-spec : {M : Type 1} → statement M
 value-at-spec = tie.close (tie.spec array-read-result returns returns-2)

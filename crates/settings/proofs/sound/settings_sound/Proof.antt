@@ -16,7 +16,7 @@ sound-string-requires c κs = search needs
 returns : tie.Need-returns
 unfolding soundSettings
 returns c =
-    let n : length (c .before .before .before .before .args .s .string) ≡ 8 = search needs in
+    let n : length (c .before .before .before .args .s .string) ≡ 8 = search needs in
     simp (c .before .values-sound .ensures, c .sound-string .ensures, n)
 
 pub settings-sound-spec : {M : Type 1} → statement M

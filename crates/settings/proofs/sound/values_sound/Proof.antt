@@ -1,16 +1,13 @@
 -- `settings::sound::values_sound` meets its contract: a list is its elements, and each is tested by the row of its option.
 -- Assumes nothing.
-use mathlib.Core.Path.{_≡_, refl}
-use mathlib.Core.Bool.{Bool, true, false, _&&_}
+use mathlib.Core.Path.{_≡_}
+use mathlib.Core.Bool.{and-true}
 use borrow.Author.Needs.{needs}
+use lib.ListN.{length}
 use Rattle.settings.specs.Table.{row}
 use Rattle.settings.proofs.Walk.{spread-all}
 use Rattle.settings.proofs.sound.values_sound.Statement.{statement}
 use Rattle.settings.proofs.sound.values_sound.Tie as tie
-
-and-true : (b : Bool) → (b && true) ≡ b
-and-true true = refl
-and-true false = refl
 
 array-read-option-sound : tie.Need-array-read-option-sound
 array-read-option-sound c = search needs
@@ -51,8 +48,9 @@ option-sound-requires-6 c κs = search needs
 returns : tie.Need-returns
 unfolding row
 returns c =
-    let v = c .before .before .before .before .before .before .args .t1 in
-    rw (c .option-sound6 .ensures, c .before .option-sound5 .ensures, c .before .before .option-sound4 .ensures, c .before .before .before .option-sound3 .ensures, c .before .before .before .before .option-sound2 .ensures, c .before .before .before .before .before .option-sound .ensures, spread-all 6 0 v (search needs), and-true)
+    let v = c .before .before .before .before .before .before .before .args .s .values in
+    let n : length v ≡ 6 = search needs in
+    rw (c .option-sound6 .ensures, c .before .option-sound5 .ensures, c .before .before .option-sound4 .ensures, c .before .before .before .option-sound3 .ensures, c .before .before .before .before .option-sound2 .ensures, c .before .before .before .before .before .option-sound .ensures, spread-all 6 0 v n, and-true)
 
 pub values-sound-spec : {M : Type 1} → statement M
 values-sound-spec =
