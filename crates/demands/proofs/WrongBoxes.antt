@@ -13,7 +13,7 @@ use Rattle.settings.specs.Options.{endings, limit, onspace, onreturn, filter, r
 use Rattle.settings.specs.Command.{commanded}
 use Rattle.step.specs.Route.{route}
 use Rattle.step.specs.State.{freshBox}
-use Rattle.linebox.specs.Ends.{stateOf}
+use Rattle.linebox.specs.Ends.{stateAfter}
 use Rattle.demands.specs.Names.{State, Host}
 use Rattle.demands.specs.Box.{Result, Box, ours}
 use Rattle.demands.specs.EveryCall.{EveryCall}
@@ -24,7 +24,7 @@ use Rattle.demands.proofs.OurBox.{ours-every-call, every-call-decides}
 
 -- just connected in mode 1, options off
 abbrev connected : State
-connected = stateOf Host freshBox mode1
+connected = stateAfter Host freshBox mode1
 
 -- room for some codes
 abbrev room : List ℕ

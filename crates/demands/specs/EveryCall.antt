@@ -7,7 +7,7 @@ use lib.ListN.{length}
 use Rattle.step.specs.State.{sound}
 use Rattle.step.specs.Step.{step}
 use Rattle.linebox.specs.Call.{refuses, fits}
-use Rattle.linebox.specs.Ends.{stateOf, firstsOf, secondsOf}
+use Rattle.linebox.specs.Ends.{stateAfter, firstsOf, secondsOf}
 use Rattle.demands.specs.Names.{State, Stream}
 use Rattle.demands.specs.Box.{Result, Box}
 use Rattle.demands.specs.ExactCodes.{Wrote}
@@ -16,11 +16,11 @@ use Rattle.demands.specs.ExactCodes.{Wrote}
 
 -- it is a byte over 31 of a code stream
 abbrev pub noCode : Stream → State → List ℕ → ℕ → Bool
-noCode t s before x = refuses t (stateOf t s before) x
+noCode t s before x = refuses t (stateAfter t s before) x
 
 -- its whole output fits the parts of the buffers still free
 abbrev pub hasRoom : Stream → State → ℕ → ℕ → List ℕ → ℕ → Bool
-hasRoom t s a b before x = fits t (step t (stateOf t s before) x) (a - length (firstsOf t s before)) (b - length (secondsOf t s before))
+hasRoom t s a b before x = fits t (step t (stateAfter t s before) x) (a - length (firstsOf t s before)) (b - length (secondsOf t s before))
 
 -- it is taken
 pub record Goes (t : Stream) (s : State) (a b : ℕ) (before : List ℕ) (x : ℕ) : Type 0 where
@@ -66,7 +66,7 @@ pub record Ended (t : Stream) (s : State) (xs one two : List ℕ) (r : Result) :
   pub rest : List ℕ
   pub splits : Splits t s xs (length one) (length two) (r .gives .answer) taken rest
   pub count : r .gives .taken ≡ length taken
-  pub state : r .gives .state ≡ stateOf t s taken
+  pub state : r .gives .state ≡ stateAfter t s taken
   pub wrote : Wrote t s taken one two r
 
 -- each call, any state, any input, any buffers

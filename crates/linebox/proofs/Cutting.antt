@@ -9,26 +9,26 @@ use lib.Seq.{take-length, take-take, take-add, length-take-le}
 use Rattle.linebox.specs.Names.{State, Stream}
 use Rattle.step.specs.Step.{Step, step, steps}
 use Rattle.linebox.specs.Call.{firstOf, secondOf, Done, call}
-use Rattle.linebox.specs.Ends.{events, outputs, stateOf, firstsOf, secondsOf, outcome, Cut, Fed, joined, feeding, fed}
+use Rattle.linebox.specs.Ends.{events, outputs, stateAfter, firstsOf, secondsOf, outcome, Cut, Fed, joined, feeding, fed}
 use Rattle.linebox.proofs.Ending.{folds, within}
 
 module _ (t : Stream) where
-  state-append : (s : State) (xs ys : List ℕ) → stateOf t s (xs ++ ys) ≡ stateOf t (stateOf t s xs) ys
+  state-append : (s : State) (xs ys : List ℕ) → stateAfter t s (xs ++ ys) ≡ stateAfter t (stateAfter t s xs) ys
   state-append s [] ys = refl
   state-append s (x ∷ xs) ys = state-append (step t s x .state) xs ys
 
-  outputs-append : (f : Step → List ℕ) (s : State) (xs ys : List ℕ) → outputs f (steps s (events t (xs ++ ys))) ≡ outputs f (steps s (events t xs)) ++ outputs f (steps (stateOf t s xs) (events t ys))
+  outputs-append : (f : Step → List ℕ) (s : State) (xs ys : List ℕ) → outputs f (steps s (events t (xs ++ ys))) ≡ outputs f (steps s (events t xs)) ++ outputs f (steps (stateAfter t s xs) (events t ys))
   outputs-append f s [] ys = refl
   outputs-append f s (x ∷ xs) ys =
       let s′ = step t s x .state in
       ap (λ (r : List ℕ). f (step t s x) ++ r) (outputs-append f s′ xs ys)
-      ∙ sym (append-assoc (f (step t s x)) (outputs f (steps s′ (events t xs))) (outputs f (steps (stateOf t s′ xs) (events t ys))))
+      ∙ sym (append-assoc (f (step t s x)) (outputs f (steps s′ (events t xs))) (outputs f (steps (stateAfter t s′ xs) (events t ys))))
 
   -- a call that took these bytes
   abbrev taking : State → ℕ → ℕ → List ℕ → Done
-  taking s w n ps = record { answer = w; taken = n; state = stateOf t s ps; first = firstsOf t s ps; second = secondsOf t s ps }
+  taking s w n ps = record { answer = w; taken = n; state = stateAfter t s ps; first = firstsOf t s ps; second = secondsOf t s ps }
 
-  fed-append : (s : State) (w n : ℕ) (ps qs : List ℕ) → n ≡ length ps → joined (taking s w n ps) (fed t (stateOf t s ps) qs) ≡ fed t s (ps ++ qs)
+  fed-append : (s : State) (w n : ℕ) (ps qs : List ℕ) → n ≡ length ps → joined (taking s w n ps) (fed t (stateAfter t s ps) qs) ≡ fed t s (ps ++ qs)
   fed-append s w n ps qs e = rw (state-append s ps qs, outputs-append (firstOf t) s ps qs, outputs-append (secondOf t) s ps qs, length-append ps qs, e)
 
   -- a call was given ys, and the others took more
@@ -39,7 +39,7 @@ module _ (t : Stream) where
       let ps = take n xs in
       let qs = take (f .taken) (drop n xs) in
       let p′ : d ≡ taking s (d .answer) n ps = p ∙ ap (taking s (d .answer) n) e in
-      let q′ : f ≡ fed t (stateOf t s ps) qs = q ∙ ap (λ (r : Done). fed t (r .state) qs) p′ in
+      let q′ : f ≡ fed t (stateAfter t s ps) qs = q ∙ ap (λ (r : Done). fed t (r .state) qs) p′ in
       ap (λ (r : Done). joined r f) p′
       ∙ ap (joined (taking s (d .answer) n ps)) q′
       ∙ fed-append s (d .answer) n ps qs (sym (length-take-le n xs inside))

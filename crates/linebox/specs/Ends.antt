@@ -21,8 +21,8 @@ outputs f [] = []
 outputs f (x ∷ xs) = f x ++ outputs f xs
 
 -- the state after bytes, and what they give to each buffer
-abbrev pub stateOf : Stream → State → List ℕ → State
-stateOf t s xs = run s (events t xs)
+abbrev pub stateAfter : Stream → State → List ℕ → State
+stateAfter t s xs = run s (events t xs)
 
 abbrev pub firstsOf : Stream → State → List ℕ → List ℕ
 firstsOf t s xs = outputs (firstOf t) (steps s (events t xs))
@@ -32,17 +32,17 @@ secondsOf t s xs = outputs (secondOf t) (steps s (events t xs))
 
 -- the outcome with that answer and the first n bytes taken
 abbrev pub outcome : Stream → State → List ℕ → ℕ → ℕ → Done
-outcome t s xs w n = record { answer = w; taken = n; state = stateOf t s (take n xs); first = firstsOf t s (take n xs); second = secondsOf t s (take n xs) }
+outcome t s xs w n = record { answer = w; taken = n; state = stateAfter t s (take n xs); first = firstsOf t s (take n xs); second = secondsOf t s (take n xs) }
 
 -- The next byte, when the first n are taken.
 
 -- it is a byte over 31 of a code stream
 abbrev pub refusesAt : Stream → State → List ℕ → ℕ → Bool
-refusesAt t s xs n = refuses t (stateOf t s (take n xs)) (getD xs n 0)
+refusesAt t s xs n = refuses t (stateAfter t s (take n xs)) (getD xs n 0)
 
 -- its whole output fits the parts of the buffers still free
 abbrev pub fitsAt : Stream → State → List ℕ → ℕ → ℕ → ℕ → Bool
-fitsAt t s xs a b n = fits t (step t (stateOf t s (take n xs)) (getD xs n 0)) (a - length (firstsOf t s (take n xs))) (b - length (secondsOf t s (take n xs)))
+fitsAt t s xs a b n = fits t (step t (stateAfter t s (take n xs)) (getD xs n 0)) (a - length (firstsOf t s (take n xs))) (b - length (secondsOf t s (take n xs)))
 
 -- Exactly when each answer comes.
 
@@ -97,4 +97,4 @@ feeding t s xs (c ∷ cs) =
 
 -- the fold over all bytes
 abbrev pub fed : Stream → State → List ℕ → Fed
-fed t s xs = record { taken = length xs; state = stateOf t s xs; first = firstsOf t s xs; second = secondsOf t s xs }
+fed t s xs = record { taken = length xs; state = stateAfter t s xs; first = firstsOf t s xs; second = secondsOf t s xs }

@@ -10,7 +10,7 @@ use lib.Dec.{eqb, leb, ltb}
 use lib.ListN.{length}
 use Rattle.laws.proofs.Both.{both}
 use Rattle.settings.specs.Names.{Home, Version, Linked, Unlinked, Value, String, Factory, Nowhere, Row}
-use Rattle.settings.specs.Table.{Option, options, placed, undefined, seek, row}
+use Rattle.settings.specs.Table.{Option, options, rowsFrom, undefined, seek, row}
 
 -- The row that is sought.
 
@@ -38,7 +38,7 @@ seek-number (r ∷ rs) n h = go (eqb n (r .number)) refl (seek-number rs n) h
 -- the row of an id has its number, unless there is none
 pub found : (n : ℕ) → (row n .home ≡ Nowhere → ⊥) → row n .number ≡ n
 unfolding row
-found n h = seek-number (placed 0 options) n h
+found n h = seek-number (rowsFrom 0 options) n h
 
 -- Least and greatest value of the option at a place.
 
@@ -69,7 +69,7 @@ fits r = fitsHome (r .home) (r .written) (r .read)
 
 pub row-fits : (n : ℕ) → fitsHome (row n .home) (row n .written) (row n .read) ≡ true
 unfolding row all fits
-row-fits n = sought fits (placed 0 options) n refl refl
+row-fits n = sought fits (rowsFrom 0 options) n refl refl
 
 -- the number of an id is a byte, that of a string below 100
 abbrev pub numberFits : Home → ℕ → Bool
@@ -83,4 +83,4 @@ numberFits Nowhere n = leb n 255
 
 pub row-number : (n : ℕ) → numberFits (row n .home) (row n .number) ≡ true
 unfolding row all
-row-number n = sought (λ r. numberFits (r .home) (r .number)) (placed 0 options) n refl refl
+row-number n = sought (λ r. numberFits (r .home) (r .number)) (rowsFrom 0 options) n refl refl

@@ -15,8 +15,8 @@ use Rattle.message.proofs.Digits.{one-digit, digits-two}
 use Rattle.message.proofs.Sizes.{framed-length, framed-few}
 use Rattle.settings.specs.Names.{Outcome, Verb, Settings, Connection, Home, Version, Linked, Unlinked, Value, String, Factory, Nowhere, Row, Fault, Stored}
 use Rattle.settings.specs.Names.fault
-use Rattle.settings.specs.Table.{between, isSpeed, allCodes, early, padded, opens, soundString, soundSettings, options, row, connects, soundLink, soundConnection}
-use Rattle.settings.specs.Command.{faultOf, numberOf, obey, told, answering, reading, kept, outcome, answered, commanded}
+use Rattle.settings.specs.Table.{between, isSpeed, allCodes, early, padded, opens, soundString, soundSettings, options, row, isConnection, soundLink, soundConnection}
+use Rattle.settings.specs.Command.{faultOf, numberOf, obey, numbersAt, answering, reading, kept, outcome, answered, commanded}
 use Rattle.settings.specs.Options.{endingCodes}
 use Rattle.settings.specs.Laws.{answerOf, Sound, Sendable, Short}
 use Rattle.settings.proofs.Accept.{accepted}
@@ -114,7 +114,7 @@ unfolding soundConnection
 linked c h = h
 
 -- the values of a row, whose number is a byte and which for the connection is its mode's
-tells : (s : Settings) (c : Connection) (r : Row) (h : Home) → Sound s c → r .home ≡ h → numberFits h (r .number) ≡ true → fitsHome h (r .written) (r .read) ≡ true → (connects h ≡ true → soundLink h (c .port) (c .speed) ≡ true) → Sendable (told s c r)
+tells : (s : Settings) (c : Connection) (r : Row) (h : Home) → Sound s c → r .home ≡ h → numberFits h (r .number) ≡ true → fitsHome h (r .written) (r .read) ≡ true → (isConnection h ≡ true → soundLink h (c .port) (c .speed) ≡ true) → Sendable (numbersAt s c r)
 unfolding endingCodes
 tells s c r Version h e n f l = rw e (few (r .number ∷ 4 ∷ 0 ∷ 0 ∷ 1 ∷ 0 ∷ []) (leb-true (r .number) 255 n, (lit≤ tt, (lit≤ tt, (lit≤ tt, (lit≤ tt, (lit≤ tt, tt)))))) refl (lit≤ tt))
 tells s c r (Linked last) h e n f l = rw e (link (r .number) last (c .port) (c .speed) (leb-true (r .number) 255 n) (leb-true last 255 f) (l refl))
@@ -126,12 +126,12 @@ tells s c r Nowhere h e n f l = rw e (few (r .number ∷ 0 ∷ []) (leb-true (r 
 
 -- the connection answers by the row of its mode, in whose range it is, and all else by its own
 read : (t : Stored) (id : ℕ) → Sound (t .settings) (t .connection) → Sendable (reading t (row id))
-read t id h = go (connects (row id .home)) refl
+read t id h = go (isConnection (row id .home)) refl
   where
-    by : (n : ℕ) → (connects (row n .home) ≡ true → soundLink (row n .home) (t .connection .port) (t .connection .speed) ≡ true) → Sendable (told (t .settings) (t .connection) (row n))
+    by : (n : ℕ) → (isConnection (row n .home) ≡ true → soundLink (row n .home) (t .connection .port) (t .connection .speed) ≡ true) → Sendable (numbersAt (t .settings) (t .connection) (row n))
     by n = tells (t .settings) (t .connection) (row n) (row n .home) h refl (row-number n) (row-fits n)
 
-    go : (b : Bool) → connects (row id .home) ≡ b → Sendable (told (t .settings) (t .connection) (cond b (row (t .connection .mode)) (row id)))
+    go : (b : Bool) → isConnection (row id .home) ≡ b → Sendable (numbersAt (t .settings) (t .connection) (cond b (row (t .connection .mode)) (row id)))
     go true e = by (t .connection .mode) (λ q. linked (t .connection) (h .connection))
     go false e = by id (λ q. absurd (false≢true (sym e ∙ q)))
 

@@ -13,8 +13,8 @@ use Rattle.laws.proofs.Both.{both}
 use Rattle.settings.specs.Names.{Verb, Write, Read, Other, Settings, Connection, Home, Version, Linked, Unlinked, Value, String, Factory, Nowhere, Row, Takes, Count, Fault, Stored}
 use Rattle.settings.specs.Names.takes
 use Rattle.settings.specs.Names.fault
-use Rattle.settings.specs.Table.{between, inRange, options, row, connects, width, takesIf, takenBy, factory, allIn, soundString, soundSettings, soundLink, soundConnection}
-use Rattle.settings.specs.Command.{faultOf, kept, withValue, withString, store, obey, valuesAt, told, reading, outcome, answered, commanded}
+use Rattle.settings.specs.Table.{between, inRange, options, row, isConnection, width, takesIf, takenBy, factory, allIn, soundString, soundSettings, soundLink, soundConnection}
+use Rattle.settings.specs.Command.{faultOf, kept, withValue, withString, store, obey, valuesAt, numbersAt, reading, outcome, answered, commanded}
 use Rattle.settings.specs.Laws.{answerOf, readBy, Sound}
 use Rattle.settings.proofs.Accept.{Accepted, accepted, success}
 use Rattle.settings.proofs.Rows.{lowAt, highAt, fitsHome, found, row-fits}
@@ -75,7 +75,7 @@ module _ (s : Settings) (c : Connection) (ps : List ℕ) (nine : length ps ≡ 9
   stored-values Nowhere n w r f e = absurd (false≢true (rw e at f))
 
 -- a write answers under its own id
-own : (s : Settings) (c : Connection) (h : Home) (r : Row) (ps : List ℕ) → row (r .number) ≡ r → r .home ≡ h → reading (store s c h (r .number) ps) r ≡ told (store s c h (r .number) ps .settings) (store s c h (r .number) ps .connection) r
+own : (s : Settings) (c : Connection) (h : Home) (r : Row) (ps : List ℕ) → row (r .number) ≡ r → r .home ≡ h → reading (store s c h (r .number) ps) r ≡ numbersAt (store s c h (r .number) ps .settings) (store s c h (r .number) ps .connection) r
 own s c Version r ps e g = rw g
 own s c (Linked last) r ps e g = rw (g, e, g)
 own s c Unlinked r ps e g = rw (g, e, g)
@@ -107,7 +107,7 @@ module _ (s : Settings) (c : Connection) (count : ℕ) (fields : List ℕ) (elev
       rw (success s c Write count fields ok, answer-outcome, own s c (r .home) r (drop 2 fields) (ap row f) refl, v, values-long 0 (drop 2 fields) (r .home) l, f, a .number, ← t .1)
 
 -- 1 reads the connection
-first : (row 1 .read ≡ true) × (connects (row 1 .home) ≡ true)
+first : (row 1 .read ≡ true) × (isConnection (row 1 .home) ≡ true)
 unfolding row
 first = (refl, refl)
 

@@ -8,7 +8,7 @@ use lib.ListN.{length, getD, take, drop, set, replicate}
 use Rattle.settings.specs.Names.{Verb, Write, Read, Other, Settings, Connection, Home, Version, Linked, Unlinked, Value, String, Factory, Nowhere, Row, Takes, Count, Fault, Stored, Outcome}
 use Rattle.settings.specs.Names.takes
 use Rattle.settings.specs.Names.fault
-use Rattle.settings.specs.Table.{inRange, row, connects, takenBy, factory}
+use Rattle.settings.specs.Table.{inRange, row, isConnection, takenBy, factory}
 
 -- The first error that applies.
 
@@ -105,14 +105,14 @@ valuesAt s c Nowhere = []
 
 -- the connection answers under its mode's own id
 abbrev pub answering : Connection → Row → Row
-answering c r = cond (connects (r .home)) (row (c .mode)) r
+answering c r = cond (isConnection (r .home)) (row (c .mode)) r
 
 -- the id, how many values it has, and the values
-abbrev pub told : Settings → Connection → Row → List ℕ
-told s c r = r .number ∷ length (valuesAt s c (r .home)) ∷ valuesAt s c (r .home)
+abbrev pub numbersAt : Settings → Connection → Row → List ℕ
+numbersAt s c r = r .number ∷ length (valuesAt s c (r .home)) ∷ valuesAt s c (r .home)
 
 abbrev pub reading : Stored → Row → List ℕ
-reading t r = told (t .settings) (t .connection) (answering (t .connection) r)
+reading t r = numbersAt (t .settings) (t .connection) (answering (t .connection) r)
 
 -- The whole command.
 

@@ -7,7 +7,7 @@ use lib.ListN.{length, take}
 use Rattle.message.specs.Message.{framed}
 use Rattle.message.specs.Find.{AllBytes, Counted}
 use Rattle.settings.specs.Names.{Settings, Connection, Row, Outcome}
-use Rattle.settings.specs.Table.{connects, soundSettings, soundConnection}
+use Rattle.settings.specs.Table.{isConnection, soundSettings, soundConnection}
 
 -- the numbers that an outcome answers
 abbrev pub answerOf : Outcome → List ℕ
@@ -15,7 +15,7 @@ answerOf o = take (o .count) (o .numbers)
 
 -- the id under which what was written is read: 1 gives any connection
 abbrev pub readBy : Row → ℕ
-readBy r = cond (connects (r .home)) 1 (r .number)
+readBy r = cond (isConnection (r .home)) 1 (r .number)
 
 -- settings and connection are sound
 pub record Sound (s : Settings) (c : Connection) : Type 0 where

@@ -8,13 +8,13 @@ use Rattle.settings.specs.Names.{Settings}
 use Rattle.settings.specs.Table.{Option, options}
 
 -- which option has this id
-abbrev pub placeIn : List Option → ℕ → ℕ
-placeIn [] n = 0
-placeIn (x ∷ xs) n = cond (eqb n (x .number)) 0 (suc (placeIn xs n))
+abbrev pub optionPlace : List Option → ℕ → ℕ
+optionPlace [] n = 0
+optionPlace (x ∷ xs) n = cond (eqb n (x .number)) 0 (suc (optionPlace xs n))
 
 -- the value of an option
 abbrev pub valueOf : Settings → ℕ → ℕ
-valueOf o n = getD (o .values) (placeIn options n) 0
+valueOf o n = getD (o .values) (optionPlace options n) 0
 
 -- 1 is on
 abbrev pub isOn : ℕ → Bool

@@ -94,9 +94,9 @@ others =
     ∷ []
 
 -- an option can be written and read, and its value has the next place
-abbrev pub placed : ℕ → List Option → List Row
-placed place [] = others
-placed place (x ∷ xs) = is (x .number) (Value place (x .low) (x .high)) true true ∷ placed (suc place) xs
+abbrev pub rowsFrom : ℕ → List Option → List Row
+rowsFrom place [] = others
+rowsFrom place (x ∷ xs) = is (x .number) (Value place (x .low) (x .high)) true true ∷ rowsFrom (suc place) xs
 
 -- an id that the table does not have
 abbrev pub undefined : Row
@@ -109,17 +109,17 @@ seek (r ∷ rs) n = cond (eqb n (r .number)) r (seek rs n)
 
 -- the row of an id
 unfoldable pub row : ℕ → Row
-row n = seek (placed 0 options) n
+row n = seek (rowsFrom 0 options) n
 
 -- it names the connection
-abbrev pub connects : Home → Bool
-connects Version = false
-connects (Linked last) = true
-connects Unlinked = true
-connects (Value place low high) = false
-connects String = false
-connects Factory = false
-connects Nowhere = false
+abbrev pub isConnection : Home → Bool
+isConnection Version = false
+isConnection (Linked last) = true
+isConnection Unlinked = true
+isConnection (Value place low high) = false
+isConnection String = false
+isConnection Factory = false
+isConnection Nowhere = false
 
 -- how many values it has
 abbrev pub width : Home → ℕ

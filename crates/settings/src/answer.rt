@@ -2,14 +2,14 @@
 ghost use mathlib.Core.Path.{_≡_};
 ghost use mathlib.Core.List.{[], _∷_};
 ghost use lib.ListN.{getD};
-ghost use Rattle.settings.specs.Command.{answering, told, reading, outcome};
+ghost use Rattle.settings.specs.Command.{answering, numbersAt, reading, outcome};
 use crate::Connection;
 use crate::Home;
 use crate::Outcome;
 use crate::Row;
 use crate::Settings;
 use crate::Stored;
-use crate::table::connects;
+use crate::table::is_connection;
 use crate::table::row;
 
 // An id without values.
@@ -81,12 +81,12 @@ fn answering(c: Connection, r: Row) -> Row
     ensures { λ q. ⌜ q ≡ answering c r ⌝ }
 {
     let home = r.home;
-    if connects(home) { row(c.mode) } else { r }
+    if is_connection(home) { row(c.mode) } else { r }
 }
 
 // The values of a row.
 fn tell(stored: Stored, r: Row) -> Outcome
-    ensures { λ q. ⌜ q ≡ outcome stored (told (stored .settings) (stored .connection) r) ⌝ }
+    ensures { λ q. ⌜ q ≡ outcome stored (numbersAt (stored .settings) (stored .connection) r) ⌝ }
 {
     let s = stored.settings;
     let c = stored.connection;

@@ -4,7 +4,7 @@ ghost use mathlib.Core.Bool.{true};
 ghost use mathlib.Core.List.{[], _∷_};
 ghost use lib.ListN.{take};
 ghost use Rattle.settings.specs.Names.{Linked, Value};
-ghost use Rattle.settings.specs.Table.{between, isSpeed, inRange, row, connects, width, takesIf, takenBy};
+ghost use Rattle.settings.specs.Table.{between, isSpeed, inRange, row, isConnection, width, takesIf, takenBy};
 use crate::Home;
 use crate::Row;
 use crate::Takes;
@@ -53,8 +53,8 @@ pub fn row(id: u8) -> Row
 }
 
 // Whether an id names the connection.
-pub fn connects(home: Home) -> bool
-    ensures { λ r. ⌜ r ≡ connects home ⌝ }
+pub fn is_connection(home: Home) -> bool
+    ensures { λ r. ⌜ r ≡ isConnection home ⌝ }
 {
     match home {
         Home::Version => false,

@@ -8,8 +8,8 @@ use Rattle.settings.specs.declared.Settings.{Settings}
 use Rattle.settings.specs.Command.{kept, withValue}
 use Rattle.step.specs.declared.State.{State}
 use Rattle.step.specs.State.{withStored}
-use Rattle.vectors.specs.declared.traces.Stream.{Stream}
-use Rattle.vectors.specs.declared.traces.Stream.the-variants.{Host, Line, Tu}
+use Rattle.step.specs.declared.Stream.{Stream}
+use Rattle.step.specs.declared.Stream.the-variants.{Host, Line, Tu}
 use Rattle.vectors.specs.declared.text.Form.{Form}
 use Rattle.vectors.specs.declared.text.Form.the-variants.{Escaped, Decimal}
 use Rattle.vectors.specs.declared.traces.Start.{Start}

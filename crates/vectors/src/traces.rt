@@ -7,14 +7,8 @@ use crate::text::before_bar;
 use crate::text::decode;
 use settings::Stored;
 use step::State;
+use step::Stream;
 use step::states::with_stored;
-
-// Where a call's bytes come from: the host, the line or the TU.
-pub enum Stream {
-    Host,
-    Line,
-    Tu,
-}
 
 // What the next call starts with: the box, the room of the two buffers that it lends, and the count taken so far.
 pub struct Start {
