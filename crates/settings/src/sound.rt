@@ -25,10 +25,10 @@ fn values_sound(s: Settings) -> bool
     ensures { λ r. ⌜ r ≡ allIn options (s .values) ⌝ }
 {
     let v = s.values;
-    option_sound(49, v[0])
-        & (option_sound(50, v[1])
-            & (option_sound(70, v[2])
-                & (option_sound(71, v[3]) & (option_sound(72, v[4]) & option_sound(74, v[5])))))
+    let lines = option_sound(49, v[0]) & option_sound(50, v[1]);
+    let unshifts = option_sound(70, v[2]) & option_sound(71, v[3]);
+    let shifts = option_sound(72, v[4]) & option_sound(74, v[5]);
+    lines & (unshifts & shifts)
 }
 
 // Whether the settings are in the table's ranges.

@@ -1,13 +1,16 @@
 -- `settings::sound::values_sound` meets its contract: a list is its elements, and each is tested by the row of its option.
 -- Assumes nothing.
 use mathlib.Core.Path.{_≡_}
-use mathlib.Core.Bool.{and-true}
+use mathlib.Core.Bool.{Bool, true, _&&_, and-assoc, and-true}
 use borrow.Author.Needs.{needs}
-use lib.ListN.{length}
-use Rattle.settings.specs.Table.{row}
+use lib.ListN.{length, getD}
+use Rattle.settings.specs.Table.{between, row}
 use Rattle.settings.proofs.Walk.{spread-all}
 use Rattle.settings.proofs.sound.values_sound.Statement.{statement}
 use Rattle.settings.proofs.sound.values_sound.Tie as tie
+
+pairs : (a b c d e f : Bool) → ((a && b) && ((c && d) && (e && f))) ≡ (a && (b && (c && (d && (e && (f && true))))))
+pairs a b c d e f = rw (and-assoc a b ((c && d) && (e && f)), and-assoc c d (e && f), and-true f)
 
 array-read-option-sound : tie.Need-array-read-option-sound
 array-read-option-sound c = search needs
@@ -47,10 +50,11 @@ option-sound-requires-6 c κs = search needs
 
 returns : tie.Need-returns
 unfolding row
-returns c =
+returns c = 
     let v = c .before .before .before .before .before .before .before .args .s .values in
     let n : length v ≡ 6 = search needs in
-    rw (c .option-sound6 .ensures, c .before .option-sound5 .ensures, c .before .before .option-sound4 .ensures, c .before .before .before .option-sound3 .ensures, c .before .before .before .before .option-sound2 .ensures, c .before .before .before .before .before .option-sound .ensures, spread-all 6 0 v n, and-true)
+    rw (c .option-sound6 .ensures, c .before .option-sound5 .ensures, c .before .before .option-sound4 .ensures, c .before .before .before .option-sound3 .ensures, c .before .before .before .before .option-sound2 .ensures, c .before .before .before .before .before .option-sound .ensures, spread-all 6 0 v n)
+    (pairs (between 0 1 (getD v 0 0)) (between 10 80 (getD v 1 0)) (between 0 1 (getD v 2 0)) (between 0 1 (getD v 3 0)) (between 0 1 (getD v 4 0)) (between 0 1 (getD v 5 0)))
 
 pub values-sound-spec : {M : Type 1} → statement M
 values-sound-spec =
