@@ -50,7 +50,7 @@ option-sound-requires-6 c κs = search needs
 
 returns : tie.Need-returns
 unfolding row
-returns c = 
+returns c =
     let v = c .before .before .before .before .before .before .before .args .s .values in
     let n : length v ≡ 6 = search needs in
     rw (c .option-sound6 .ensures, c .before .option-sound5 .ensures, c .before .before .option-sound4 .ensures, c .before .before .before .option-sound3 .ensures, c .before .before .before .before .option-sound2 .ensures, c .before .before .before .before .before .option-sound .ensures, spread-all 6 0 v n)
