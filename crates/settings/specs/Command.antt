@@ -64,10 +64,11 @@ kept s c = record { settings = s; connection = c; connected = false }
 abbrev pub joined : Settings → Connection → Stored
 joined s c = record { settings = s; connection = c; connected = true }
 
--- one setting changed
+-- one option changed
 abbrev pub withValue : Settings → ℕ → ℕ → Settings
 withValue s place x = record { values = set (s .values) place x; string = s .string }
 
+-- string 90 changed
 abbrev pub withString : Settings → List ℕ → Settings
 withString s x = record { values = s .values; string = x }
 
@@ -111,6 +112,7 @@ answering c r = cond (isConnection (r .home)) (row (c .mode)) r
 abbrev pub numbersAt : Settings → Connection → Row → List ℕ
 numbersAt s c r = r .number ∷ length (valuesAt s c (r .home)) ∷ valuesAt s c (r .home)
 
+-- what a command answers once it is obeyed
 abbrev pub reading : Stored → Row → List ℕ
 reading t r = numbersAt (t .settings) (t .connection) (answering (t .connection) r)
 

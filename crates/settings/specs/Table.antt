@@ -64,6 +64,7 @@ pub record Option : Type 0 where
   pub high : ℕ
   pub factory : ℕ
 
+-- a line of the options
 abbrev option : ℕ → ℕ → ℕ → ℕ → Option
 option n low high f = record { number = n; low = low; high = high; factory = f }
 
@@ -78,6 +79,7 @@ options =
     ∷ option 74 0 1 0
     ∷ []
 
+-- a line of the others
 abbrev is : ℕ → Home → Bool → Bool → Row
 is n home written read = record { number = n; home = home; written = written; read = read }
 
@@ -131,6 +133,7 @@ width String = 8
 width Factory = 0
 width Nowhere = 0
 
+-- so many parameters, if the command can be given at all
 abbrev pub takesIf : Bool → ℕ → Takes
 takesIf true n = Count n
 takesIf false n = takes.Nothing
@@ -143,10 +146,12 @@ takenBy Other r = takes.Nothing
 
 -- Factory settings.
 
+-- each option's factory value
 abbrev pub factoryValues : List Option → List ℕ
 factoryValues [] = []
 factoryValues (x ∷ xs) = x .factory ∷ factoryValues xs
 
+-- and CR CR LF LTRS LTRS for string 90
 abbrev pub factory : Settings
 factory = record { values = factoryValues options; string = 8 ∷ 8 ∷ 2 ∷ 31 ∷ 31 ∷ 0 ∷ 0 ∷ 0 ∷ [] }
 
@@ -159,6 +164,7 @@ allIn [] (v ∷ vs) = false
 allIn (x ∷ xs) [] = false
 allIn (x ∷ xs) (v ∷ vs) = between (x .low) (x .high) v && allIn xs vs
 
+-- and string 90 with its eight codes, by its rules
 unfoldable pub soundSettings : Settings → Bool
 soundSettings s = allIn options (s .values) && (eqb (length (s .string)) 8 && soundString (s .string))
 

@@ -121,9 +121,11 @@ abbrev pub pick : List ℕ → List ℕ → List ℕ
 pick b [] = []
 pick b (o ∷ os) = getD b o 0 ∷ pick b os
 
+-- the options by their offsets, string 90 from 6 on
 abbrev pub settingsOf : List ℕ → Settings
 settingsOf b = record { values = pick b offsets; string = part b 6 8 }
 
+-- mode, port and speed
 abbrev pub connectionOf : List ℕ → Connection
 connectionOf b = record { mode = getD b 14 0; port = getD b 15 0; speed = getD b 16 0 }
 

@@ -9,6 +9,7 @@ route c Host = cond (eqb (c .mode) 1) ToPrinter Dropped
 route c Line = cond (eqb (c .mode) 1) ToHost (cond (eqb (c .mode) 4) ToTu Dropped)
 route c Tu = cond (eqb (c .mode) 4) ToPrinter Dropped
 
+-- the bytes are printed
 abbrev pub isPrinter : Route → Bool
 isPrinter Dropped = false
 isPrinter ToPrinter = true
