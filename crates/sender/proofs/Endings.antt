@@ -1,6 +1,6 @@
--- An ending code by code, counted or written: what stands before the rest of the string, and the record after it.
+-- An ending code by code: what stands before the rest of the string, and the record after it.
 -- Assumes nothing.
-use Prim.Native.Nat.{ℕ, suc, _+_, _*_, _-_, _<_, _≤_}
+use Prim.Native.Nat.{ℕ, suc, _+_, _-_, _<_, _≤_}
 use mathlib.Core.Path.{_≡_, refl, sym, ap, _∙_}
 use mathlib.Core.List.{List, [], _∷_, _++_, append-nil, append-assoc}
 use native.Mathlib.Numerals.{add-one}
@@ -13,27 +13,18 @@ use lib.Seq.{drop-cons}
 use Rattle.laws.specs.Written.{Filled}
 use Rattle.laws.proofs.Filled.{filled-none, filled-on}
 use Rattle.code.specs.Kinds.{kindOf}
-use Rattle.sender.specs.Names.{Settings, Record, Noted}
+use Rattle.sender.specs.Names.{Settings, Record}
 use Rattle.sender.specs.Record.{notes}
 use Rattle.sender.specs.Ending.{onRecord, endingCode, endingOf, untilZero}
 use Rattle.sender.specs.After.{after}
-use Rattle.sender.specs.Run.{noted, Notes}
+use Rattle.sender.specs.Run.{Notes}
 use Rattle.sender.proofs.Append.{notes-append}
 use Rattle.sender.proofs.After.{record-after}
-use Rattle.sender.proofs.Few.{kind-length}
 
--- where a loop is: i of the string's codes go out as p, at most two each, and the rest is still to come
+-- where the loop is: i of the string's codes go out as p, and the rest is still to come
 pub record Ended (o : Settings) (start : Record) (string : List ℕ) (held : Record) (i : ℕ) (p : List ℕ) : Type 0 where
-  pub within : i ≤ 8
-  pub few : length p ≤ 2 * i
   pub note : held ≡ notes o start p
   pub rest : endingOf o start (untilZero string) ≡ p ++ endingOf o held (untilZero (drop i string))
-
--- they are k codes
-pub record Counting (o : Settings) (start : Record) (string : List ℕ) (held : Record) (i k : ℕ) : Type 0 where
-  pub p : List ℕ
-  pub ended : Ended o start string held i p
-  pub count : k ≡ length p
 
 -- they stand at the front of a buffer
 pub record Ending (o : Settings) (start : Record) (string old : List ℕ) (held : Record) (i : ℕ) (now : List ℕ) (k : ℕ) : Type 0 where
@@ -43,10 +34,7 @@ pub record Ending (o : Settings) (start : Record) (string old : List ℕ) (held 
 
 module _ (o : Settings) (start : Record) (string : List ℕ) where
   none-ended : Ended o start string start 0 []
-  none-ended = record { within = omega arith; few = omega arith; note = refl; rest = refl }
-
-  pub count-start : Counting o start string start 0 0
-  count-start = record { p = []; ended = none-ended; count = refl }
+  none-ended = record { note = refl; rest = refl }
 
   pub ending-start : (old : List ℕ) → Ending o start string old start 0 old 0
   ending-start old = record { p = []; ended = none-ended; places = filled-none old }
@@ -65,14 +53,11 @@ module _ (o : Settings) (start : Record) (string : List ℕ) where
     all-ended : (p : List ℕ) → Ended o start string held i p → Over → endingOf o start (untilZero string) ≡ p
     all-ended p e z = e .rest ∙ rw (z, append-nil)
 
-    pub count-over : (k : ℕ) → Counting o start string held i k → Over → (k ≤ 16) × (record { held = held; count = k } ≡ noted o start (endingOf o start (untilZero string)))
-    count-over k e z = (omega (arith, e .count, e .ended .few, e .ended .within), rw (all-ended (e .p) (e .ended) z, e .count, ← e .ended .note))
-
     pub ending-over : (old now : List ℕ) (k : ℕ) → Ending o start string old held i now k → Over → Notes o start (endingOf o start (untilZero string)) old now (record { held = held; count = k })
     ending-over old now k e z = rw (all-ended (e .p) (e .ended) z) (record { held = e .ended .note; places = e .places })
 
     -- one code more
-    module _ (l : i < 8) (h : i < length string) (z : eqb (getD string i 0) 0 ≡ false) where
+    module _ (h : i < length string) (z : eqb (getD string i 0) 0 ≡ false) where
       abbrev c : ℕ
       c = getD string i 0
 
@@ -88,14 +73,9 @@ module _ (o : Settings) (start : Record) (string : List ℕ) where
           let r = record-after o held (onRecord (held .case)) c in
           let more : untilZero (drop i string) ≡ c ∷ cs = rw (drop-cons string i 0 h, z, add-one) in
           record {
-            within = omega arith;
-            few = rw (length-append p x) (omega (arith, e .few, kind-length o (held .case) (onRecord (held .case)) c (kindOf c)));
             note = sym r ∙ ap (λ (u : Record). notes o u x) (e .note) ∙ sym (notes-append o start p x);
             rest = e .rest ∙ ap (λ (u : List ℕ). p ++ endingOf o held u) more ∙ ap (λ (u : Record). p ++ (x ++ endingOf o u cs)) r ∙ sym (append-assoc p x _);
           }
-
-      pub count-turn : (k m : ℕ) → Counting o start string held i k → m ≡ length x → Counting o start string next (i + 1) (k + m)
-      count-turn k m e f = record { p = e .p ++ x; ended = one-ended (e .p) (e .ended); count = rw (length-append (e .p) x, e .count, f) }
 
       -- it has room where the whole ending has
       pub ending-room : (old now : List ℕ) (k : ℕ) → Ending o start string old held i now k → length (endingOf o start (untilZero string)) ≤ length old → length x ≤ length now - k

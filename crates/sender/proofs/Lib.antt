@@ -4,5 +4,4 @@ mod Shifted
 pub mod Few
 mod Endings
 mod OneItem
-mod Texts
 pub mod Sending

@@ -1,4 +1,4 @@
--- One item counted and written: the ending and the code, dropped or not.
+-- One item: the ending and the code, dropped or not.
 -- Assumes nothing.
 use Prim.Native.Nat.{ℕ, _+_, _-_, _≤_}
 use mathlib.Core.Path.{_≡_, refl, sym, ap, _∙_}
@@ -17,14 +17,11 @@ use Rattle.sender.specs.Code.{sendKind, sendAs}
 use Rattle.sender.specs.Ending.{due, ending, endingBefore}
 use Rattle.sender.specs.Item.{character, lastOf, repeats, item, items, afterItem, afterItems}
 use Rattle.sender.specs.After.{after}
-use Rattle.sender.specs.Run.{noted, counted, Notes, PutsItems}
+use Rattle.sender.specs.Run.{Notes, PutsItems}
 use Rattle.sender.proofs.Append.{notes-append}
 use Rattle.sender.proofs.After.{record-after}
 
 -- no ending
-pub none-noted : (o : Settings) (r : Record) (b : Bool) → b ≡ false → (0 ≤ 16) × (record { held = r; count = 0 } ≡ noted o r (ending o r b))
-none-noted o r b e = (omega arith, rw e)
-
 pub no-ending : (o : Settings) (r : Record) (old : List ℕ) (b : Bool) → b ≡ false → Notes o r (ending o r b) old old (record { held = r; count = 0 })
 no-ending o r old b e = rw e (record { held = refl; places = filled-none old })
 
@@ -52,13 +49,6 @@ module _ (o : Settings) (r : Record) (w : Wanted) (k : Kind) (q : k ≡ kindOf (
         → Notes o r (character o r w) old (putMid n (length mid - n) mid ys) (record { held = after o held (w .case) k; count = n + m })
     character-put old mid ys n m f g = record { held = character-held; places = rw (← character-codes) (filled-on old mid b c ys n m f g) }
 
-  pub character-noted : (x : Noted) (m : ℕ) → x ≡ noted o r b → m ≡ length (sendKind o (x .held .case) (w .case) k (w .code))
-      → record { held = after o (x .held) (w .case) k; count = x .count + m } ≡ noted o r (character o r w)
-  character-noted x m f g =
-      let e = ap (λ (u : Noted). u .held) f in
-      let n = ap (λ (u : Noted). u .count) f in
-      rw (character-held (x .held) e, ← character-codes (x .held) e, length-append b (sendKind o (x .held .case) (w .case) k (w .code)), n, g)
-
   -- the ending has room where the whole character has
   pub ending-room : (n : ℕ) → length (character o r w) ≤ n → length b ≤ n
   ending-room n h = omega (arith, h, ap length (character-codes (notes o r b) refl), length-append b (sendKind o (notes o r b .case) (w .case) k (w .code)))
@@ -69,9 +59,6 @@ module _ (o : Settings) (s : Sender) (w : Wanted) (k : Kind) (last : Last) (p : 
     dropped : (repeats (lastOf (kindOf (w .code))) (s .last) && filter o) ≡ true
     dropped = rw (q, p) at e
 
-    pub drop-counted : (0 ≤ 18) × (record { sender = record { held = s .held; last = last }; count = 0 } ≡ counted o s (w ∷ []))
-    drop-counted = (omega arith, rw (q, p, dropped))
-
     pub item-dropped : (old : List ℕ) → PutsItems o s (w ∷ []) old old (record { sender = record { held = s .held; last = last }; count = 0 })
     item-dropped old = rw (q, p) (record { sender = rw dropped; places = rw dropped (filled-none old) })
 
@@ -79,9 +66,6 @@ module _ (o : Settings) (s : Sender) (w : Wanted) (k : Kind) (last : Last) (p : 
   module _ (e : (repeats last (s .last) && filter o) ≡ false) where
     kept : (repeats (lastOf (kindOf (w .code))) (s .last) && filter o) ≡ false
     kept = rw (q, p) at e
-
-    pub item-counted : (x : Noted) → x ≡ noted o (s .held) (character o (s .held) w) → record { sender = record { held = x .held; last = last }; count = x .count } ≡ counted o s (w ∷ [])
-    item-counted x f = rw (f, q, p, kept, append-nil)
 
     pub item-room : (n : ℕ) → length (items o s (w ∷ [])) ≤ n → length (character o (s .held) w) ≤ n
     item-room n h = rw (kept, append-nil (character o (s .held) w)) at h

@@ -1,6 +1,6 @@
 -- The loop over bytes that go out: what is reached after some of them, and one turn more.
 -- Assumes nothing.
-use Prim.Native.Nat.{ℕ, suc, _+_, _-_, _≤_, _<_}
+use Prim.Native.Nat.{ℕ, suc, _+_, _*_, _-_, _≤_, _<_}
 use mathlib.Core.Path.{_≡_, refl, sym, ap, _∙_}
 use mathlib.Core.Bool.{Bool, true, false, cond, false≢true, true≢false}
 use lib.Dec.{leb}
@@ -11,12 +11,16 @@ use native.Mathlib.Nat.{zero-add, add-zero, sub-zero}
 use borrow.Rule.Slice.PartMut.{putMid, midOf}
 use lib.ListN.{length, getD, drop, drop-of-length-le}
 use lib.Seq.{drop-cons}
+use borrow.Author.Tests.{le-leb}
 use Rattle.laws.specs.Written.{Filled}
 use Rattle.laws.proofs.Either.{either-way}
 use Rattle.laws.proofs.Filled.{filled-none, filled-on}
-use Rattle.sender.specs.Names.{Conversion, Nothing, Free, Cased, Settings, Sender, Asks, Until, Item}
-use Rattle.sender.specs.Item.{items, afterItems, wantedOf, wantedBy}
-use Rattle.sender.specs.Run.{isNone, wantedAs, asksNext, stopsAt, Run, noRun, runOn, runOf, PutsItems, SendsRun}
+use Rattle.settings.specs.Options.{endingCodes}
+use Rattle.sender.specs.Names.{Conversion, Nothing, Free, Cased, Settings, Sender, Asks, Text, Until, Never, Item}
+use Rattle.sender.specs.Item.{items, afterItems, wantedOf, converted, wantedBy, wantedText}
+use Rattle.sender.specs.Run.{isNone, wantedAs, asksNext, stopsAt, Run, noRun, runOn, most, runOf, PutsItems, SendsRun}
+use Rattle.sender.proofs.Append.{items-append, after-append}
+use Rattle.sender.proofs.Few.{byte-most}
 
 -- where there is a code, it is the one item
 pub one-wanted : (x : Conversion) → isNone x ≡ false → wantedOf x ≡ wantedAs x ∷ []
@@ -64,21 +68,21 @@ module _ (o : Settings) (start : Sender) (first : Asks) (until : Until) (bytes o
       abbrev cs : List ℕ
       cs = items o s (wantedBy asks (getD bytes n 0))
 
-      pub no-room : leb (length cs) (length now - k) ≡ false → SendsRun (runOf o start first until bytes (length old)) old now (record { sender = s; asks = asks; taken = n; count = k })
+      pub no-room : leb most (length now - k) ≡ false → SendsRun (runOf o start first until bytes (length old)) old now (record { sender = s; asks = asks; taken = n; count = k })
       no-room h = stops (rw (drop-cons bytes n 0 lt, ← e .places .same-length, h) (either-way (stopsAt until (getD bytes n 0)) (noRun s asks)))
 
       pub at-stop : stopsAt until (getD bytes n 0) ≡ true → SendsRun (runOf o start first until bytes (length old)) old now (record { sender = s; asks = asks; taken = n; count = k })
       at-stop z = stops (rw (drop-cons bytes n 0 lt, z))
 
       -- one byte more
-      pub sends-on : leb (length cs) (length now - k) ≡ true → stopsAt until (getD bytes n 0) ≡ false → (ys : List ℕ) (x : Item)
+      pub sends-on : leb most (length now - k) ≡ true → stopsAt until (getD bytes n 0) ≡ false → (ys : List ℕ) (x : Item)
           → PutsItems o s (wantedBy asks (getD bytes n 0)) (midOf k (length now - k) now) ys x
           → Sending o start first until bytes old (x .sender) (asksNext o asks (getD bytes n 0)) (n + 1) (putMid k (length now - k) now ys) (k + x .count)
       sends-on h z ys x f =
           let b = getD bytes n 0 in
           let ws = wantedBy asks b in
           let a = length old - k in
-          let u : leb (length cs) a ≡ true = rw (e .places .same-length) at h in
+          let u : leb most a ≡ true = rw (e .places .same-length) at h in
           let v : a - length cs ≡ length old - (k + x .count) = omega (arith, f .places .count) in
           let turn : runOf o s asks until (drop n bytes) a ≡ runOn cs (runOf o (afterItems o s ws) (asksNext o asks b) until (drop (n + 1) bytes) (a - length cs)) = rw (drop-cons bytes n 0 lt, z, u, add-one) in
           record {
@@ -91,7 +95,7 @@ module _ (o : Settings) (start : Sender) (first : Asks) (until : Until) (bytes o
 -- no more bytes than there are
 pub run-within : (o : Settings) (s : Sender) (asks : Asks) (until : Until) (bs : List ℕ) (room : ℕ) → runOf o s asks until bs room .taken ≤ length bs
 run-within o s asks until [] room = omega arith
-run-within o s asks until (b ∷ bs) room = go (stopsAt until b) (leb (length (items o s (wantedBy asks b))) room) (run-within o _ _ until bs _)
+run-within o s asks until (b ∷ bs) room = go (stopsAt until b) (leb most room) (run-within o _ _ until bs _)
   where
     go : (halts fits : Bool)
         → (let ws = wantedBy asks b in runOf o (afterItems o s ws) (asksNext o asks b) until bs (room - length (items o s ws)) .taken ≤ length bs)
@@ -100,10 +104,21 @@ run-within o s asks until (b ∷ bs) room = go (stopsAt until b) (leb (length (i
     go false true h = omega (arith, h)
     go false false h = omega arith
 
+-- where each byte's most has room, all of a text goes out
+pub text-run : (o : Settings) → length (endingCodes o) ≡ 8 → (s : Sender) (bs : List ℕ) (room : ℕ) → most * length bs ≤ room
+    → runOf o s Text Never bs room ≡ record { sender = afterItems o s (wantedText bs); asks = Text; taken = length bs; codes = items o s (wantedText bs) }
+text-run o eight s [] room h = refl
+text-run o eight s (b ∷ bs) room h =
+    let ws = wantedBy Text b in
+    let n = byte-most o eight s (converted Text b) in
+    let u : leb most room ≡ true = le-leb most room (omega (arith, h)) in
+    let v : most * length bs ≤ room - length (items o s ws) = omega (arith, h, n) in
+    rw (u, text-run o eight (afterItems o s ws) bs (room - length (items o s ws)) v, items-append o s ws (wantedText bs), after-append o s ws (wantedText bs))
+
 -- no bytes, no codes
 pub run-none : (o : Settings) (s : Sender) (asks : Asks) (until : Until) (bs : List ℕ) (room : ℕ) → runOf o s asks until bs room .taken ≡ 0 → runOf o s asks until bs room .codes ≡ []
 run-none o s asks until [] room e = refl
-run-none o s asks until (b ∷ bs) room e = go (stopsAt until b) (leb (length (items o s (wantedBy asks b))) room) e
+run-none o s asks until (b ∷ bs) room e = go (stopsAt until b) (leb most room) e
   where
     go : (halts fits : Bool)
         → let ws = wantedBy asks b in

@@ -11,14 +11,6 @@ use Rattle.sender.specs.Names.{Case, Letters, Conversion, Nothing, Free,
 use Rattle.sender.specs.Record.{notes}
 use Rattle.sender.specs.Item.{items, afterItems, wanted, wantedBy, incoming}
 
--- what is told of codes that go out: the record after them, and how many they are
-abbrev pub noted : Settings → Record → List ℕ → Noted
-noted o start codes = record { held = notes o start codes; count = length codes }
-
--- and of items
-abbrev pub counted : Settings → Sender → List Wanted → Item
-counted o s ws = record { sender = afterItems o s ws; count = length (items o s ws) }
-
 -- codes at the front of a buffer, each noted in the record
 pub record Notes (o : Settings) (start : Record) (codes old now : List ℕ) (r : Noted) : Type 0 where
   pub held : r .held ≡ notes o start codes
@@ -72,13 +64,17 @@ noRun s asks = record { sender = s; asks = asks; taken = 0; codes = [] }
 abbrev pub runOn : List ℕ → Run → Run
 runOn cs d = record { sender = d .sender; asks = d .asks; taken = suc (d .taken); codes = cs ++ d .codes }
 
--- the bytes one after the other, as long as all codes of the next one fit, and up to one that stops them
+-- the most codes that a byte can be: two for each of string 90's eight, and two for its own
+abbrev pub most : ℕ
+most = 18
+
+-- the bytes one after the other, as long as any byte's codes have room, and up to one that stops them
 abbrev pub runOf : Settings → Sender → Asks → Until → List ℕ → ℕ → Run
 runOf o s asks until [] room = noRun s asks
 runOf o s asks until (b ∷ bs) room =
     let ws = wantedBy asks b in
     cond (stopsAt until b) (noRun s asks)
-    (cond (leb (length (items o s ws)) room) (runOn (items o s ws) (runOf o (afterItems o s ws) (asksNext o asks b) until bs (room - length (items o s ws)))) (noRun s asks))
+    (cond (leb most room) (runOn (items o s ws) (runOf o (afterItems o s ws) (asksNext o asks b) until bs (room - length (items o s ws)))) (noRun s asks))
 
 -- what the caller is told of it, and the buffer
 pub record SendsRun (d : Run) (old now : List ℕ) (r : Sent) : Type 0 where

@@ -1,15 +1,15 @@
-// One code with its shifts, and an ending of several: how many codes they are, and at the front of a buffer that has room for them.
+// One code with its shifts, and an ending of several, at the front of a buffer that has room for them.
 ghost use mathlib.Core.Path.{_≡_};
 ghost use mathlib.Core.Bool.{cond};
 ghost use mathlib.Core.List.{[], _∷_};
-ghost use Prim.Native.Nat.{ℕ, _≤_};
+ghost use Prim.Native.Nat.{_≤_};
 ghost use lib.Dec.{eqb};
 ghost use lib.ListN.{length};
 ghost use Rattle.laws.specs.Written.{Filled};
 ghost use Rattle.sender.specs.Names.{Letters as Names·Letters};
 ghost use Rattle.sender.specs.Code.{sameCase, isCase, shiftFor, unshift, follow, sendKind};
 ghost use Rattle.sender.specs.Ending.{onRecord, endingOf, untilZero};
-ghost use Rattle.sender.specs.Run.{noted, Notes};
+ghost use Rattle.sender.specs.Run.{Notes};
 use crate::Known;
 use crate::Noted;
 use crate::Record;
@@ -81,19 +81,6 @@ fn is_followed(o: Settings, n: Known, k: Kind) -> bool
     }
 }
 
-// How many codes one code is in its wanted case, whichever it is.
-pub fn count_code(o: Settings, n: Known, want: Case, k: Kind) -> usize
-    ensures { λ r. ⌜ (r ≤ 2) × ((c : ℕ) → r ≡ length (sendKind o n want k c)) ⌝ }
-{
-    if is_led(n, want, k) {
-        return 2;
-    }
-    if is_followed(o, n, k) {
-        return 2;
-    }
-    1
-}
-
 // One code in its wanted case: the shift that it needs, the code, the LTRS that follows. How many they are.
 pub fn put_code(o: Settings, n: Known, want: Case, c: u8, k: Kind, out: &mut [u8]) -> usize
     requires { ⌜ length (sendKind o n want k c) ≤ length (now out) ⌝ }
@@ -127,29 +114,6 @@ fn is_end(c: u8) -> bool
     ensures { λ r. ⌜ r ≡ eqb c 0 ⌝ }
 {
     c == 0
-}
-
-// A string's codes as an ending, up to its first 0, counted.
-pub fn count_ending(o: Settings, start: Record, string: [u8; 8]) -> Noted
-    ensures { λ r. ⌜ (r .count ≤ 16) × (r ≡ noted o start (endingOf o start (untilZero string))) ⌝ }
-{
-    let mut held = start;
-    let mut count = 0;
-    let mut i = 0;
-    while i < 8 {
-        let c = string[i];
-        if is_end(c) {
-            return Noted { held, count };
-        }
-        let case = held.case;
-        let want = on_record(case);
-        let k = code::kind_of(c);
-        let n = count_code(o, case, want, k);
-        held = after(o, held, want, k);
-        count += n;
-        i += 1;
-    }
-    Noted { held, count }
 }
 
 // A string's codes as an ending, up to its first 0.

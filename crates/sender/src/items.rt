@@ -1,5 +1,4 @@
-// Items: the ending that is due, the code with its shifts, and what option 72 drops. How many codes they are, and at the front of a
-// buffer that has room for them.
+// Items: the ending that is due, the code with its shifts, and what option 72 drops, at the front of a buffer that has room for them.
 ghost use mathlib.Core.Path.{_≡_};
 ghost use mathlib.Core.Bool.{_&&_};
 ghost use mathlib.Core.List.{[], _∷_};
@@ -9,7 +8,7 @@ ghost use Rattle.code.specs.Kinds.{kindOf};
 ghost use Rattle.settings.specs.Options.{filter};
 ghost use Rattle.sender.specs.Ending.{due, ending};
 ghost use Rattle.sender.specs.Item.{character, lastOf, repeats, items};
-ghost use Rattle.sender.specs.Run.{noted, counted, Notes, PutsItems};
+ghost use Rattle.sender.specs.Run.{Notes, PutsItems};
 use crate::Column;
 use crate::Item;
 use crate::Last;
@@ -17,8 +16,6 @@ use crate::Noted;
 use crate::Record;
 use crate::Sender;
 use crate::Wanted;
-use crate::codes::count_code;
-use crate::codes::count_ending;
 use crate::codes::put_code;
 use crate::codes::put_ending;
 use crate::codes::same_case;
@@ -43,18 +40,6 @@ fn is_ended(o: Settings, col: Column, moves: bool) -> bool
     moves & is_due(o, col)
 }
 
-// The ending, where it goes before this code, counted.
-fn count_end(o: Settings, held: Record, moves: bool) -> Noted
-    ensures { λ r. ⌜ (r .count ≤ 16) × (r ≡ noted o held (ending o held (moves && due o (held .column)))) ⌝ }
-{
-    let col = held.column;
-    let string = o.ending_codes();
-    if is_ended(o, col, moves) {
-        return count_ending(o, held, string);
-    }
-    Noted { held, count: 0 }
-}
-
 // The ending, where it goes before this code.
 fn end_line(o: Settings, held: Record, moves: bool, out: &mut [u8]) -> Noted
     requires { ⌜ length (ending o held (moves && due o (held .column))) ≤ length (now out) ⌝ }
@@ -66,22 +51,6 @@ fn end_line(o: Settings, held: Record, moves: bool, out: &mut [u8]) -> Noted
         return put_ending(o, held, string, out);
     }
     Noted { held, count: 0 }
-}
-
-// A character asked for, counted: the ending that is due, then the code with its shifts.
-fn count_character(o: Settings, held: Record, w: Wanted, k: Kind) -> Noted
-    requires { ⌜ k ≡ kindOf (w .code) ⌝ }
-    ensures { λ r. ⌜ (r .count ≤ 18) × (r ≡ noted o held (character o held w)) ⌝ }
-{
-    let case = w.case;
-    let ended = count_end(o, held, code::moves(case, k));
-    let then = ended.held;
-    let n = then.case;
-    let m = count_code(o, n, case, k);
-    Noted {
-        held: after(o, then, case, k),
-        count: ended.count + m,
-    }
 }
 
 // A character asked for: the ending that is due, then the code with its shifts.
@@ -136,28 +105,6 @@ fn is_dropped(o: Settings, this: Last, was: Last) -> bool
         o.filter()
     } else {
         false
-    }
-}
-
-// One item, counted.
-pub fn count_item(o: Settings, s: Sender, w: Wanted) -> Item
-    ensures { λ r. ⌜ (r .count ≤ 18) × (r ≡ counted o s (w ∷ [])) ⌝ }
-{
-    let held = s.held;
-    let before = s.last;
-    let k = code::kind_of(w.code);
-    let last = last_of(k);
-    if is_dropped(o, last, before) {
-        return Item {
-            sender: Sender { held, last },
-            count: 0,
-        };
-    }
-    let x = count_character(o, held, w, k);
-    let noted = x.held;
-    Item {
-        sender: Sender { held: noted, last },
-        count: x.count,
     }
 }
 

@@ -1,18 +1,18 @@
-// Bytes sent one after the other, as long as the buffer has room for all codes of the next.
+// Bytes sent one after the other, as long as the buffer has room for the most codes that a byte can be.
 ghost use mathlib.Core.Path.{_≡_};
 ghost use Prim.Native.Nat.{_≤_, _<_};
 ghost use lib.Dec.{leb};
 ghost use lib.ListN.{length};
 ghost use Rattle.convert.specs.Entry.{Tabled};
-ghost use Rattle.sender.specs.Item.{items, wantedOf, converted, wantedBy, wantedText, unshiftedBy, incoming};
-ghost use Rattle.sender.specs.Run.{counted, isNone, wantedAs, asksNext, caseAsked, stopsAt, PutsItems, runOf, SendsRun};
+ghost use Rattle.settings.specs.Options.{endingCodes};
+ghost use Rattle.sender.specs.Item.{items, wantedOf, converted, unshiftedBy, incoming};
+ghost use Rattle.sender.specs.Run.{isNone, wantedAs, asksNext, caseAsked, stopsAt, PutsItems, most, runOf, SendsRun};
 use crate::Asks;
 use crate::Item;
 use crate::Sender;
 use crate::Sent;
 use crate::Until;
 use crate::Wanted;
-use crate::items::count_item;
 use crate::items::put_item;
 use code::Case;
 use code::Conversion;
@@ -109,63 +109,18 @@ fn stops(until: Until, b: u8) -> bool
     }
 }
 
-// The item of a byte, if it has a code, counted.
-fn count_asked(o: Settings, s: Sender, x: Conversion) -> Item
-    ensures { λ r. ⌜ (r .count ≤ 18) × (r ≡ counted o s (wantedOf x)) ⌝ }
-{
-    if is_none(x) {
-        return Item {
-            sender: s,
-            count: 0,
-        };
-    }
-    count_item(o, s, wanted_as(x))
-}
-
-// How many codes a byte is, and the sender after it.
-pub fn count(o: Settings, s: Sender, asks: Asks, b: u8) -> Item
-    ensures { λ r. ⌜ (r .count ≤ 18) × (r ≡ counted o s (wantedBy asks b)) ⌝ }
-{
-    let table = convert::table();
-    count_asked(o, s, convert_as(asks, &table, b))
-}
-
-// How many codes a text of one or two bytes is, and the sender after it.
-pub fn count_text(o: Settings, start: Sender, text: &[u8]) -> Item
-    requires { ⌜ length (now text) ≤ 2 ⌝ }
-    ensures { λ r. ⌜ r ≡ counted o start (wantedText (now (text .entry))) ⌝ }
-{
-    let mut sender = start;
-    let mut codes = 0;
-    let mut i = 0;
-    while i < text.len() {
-        let x = count(o, sender, Asks::Text, text[i]);
-        sender = x.sender;
-        codes += x.count;
-        i += 1;
-    }
-    Item {
-        sender,
-        count: codes,
-    }
-}
-
 // The most codes that a byte can be: two for each of string 90's codes, and two for its own.
 fn most(string: [u8; 8]) -> usize
-    ensures { λ r. ⌜ (r ≡ 18) × (length string ≡ 8) ⌝ }
+    ensures { λ r. ⌜ (r ≡ most) × (length string ≡ 8) ⌝ }
 {
     2 * string.len() + 2
 }
 
-// Whether a byte's codes have room: no byte is more than eighteen, and with fewer places free they are counted.
-fn has_room(o: Settings, s: Sender, asks: Asks, b: u8, room: usize) -> bool
-    ensures { λ r. ⌜ r ≡ leb (length (items o s (wantedBy asks b))) room ⌝ }
+// Whether any byte's codes have room.
+fn has_room(o: Settings, room: usize) -> bool
+    ensures { λ r. ⌜ (r ≡ leb most room) × (length (endingCodes o) ≡ 8) ⌝ }
 {
-    if most(o.ending_codes()) <= room {
-        return true;
-    }
-    let y = count(o, s, asks, b);
-    y.count <= room
+    most(o.ending_codes()) <= room
 }
 
 // The item of a byte, if it has a code.
@@ -194,7 +149,7 @@ fn sent(sender: Sender, asks: Asks, taken: usize, count: usize) -> Sent
     }
 }
 
-// The bytes one after the other, at the front of the buffer, up to one that stops them.
+// The bytes one after the other, at the front of the buffer, up to one that stops them and while any byte's codes have room.
 pub fn send(
     o: Settings,
     start: Sender,
@@ -214,7 +169,7 @@ pub fn send(
     let mut count = 0;
     while taken < bytes.len() {
         let b = bytes[taken];
-        if !has_room(o, sender, asks, b, out.len() - count) {
+        if !has_room(o, out.len() - count) {
             return sent(sender, asks, taken, count);
         }
         if stops(until, b) {

@@ -68,7 +68,7 @@ put-code-requires c κs =
     let n : length (a .t3) ≡ 8 = b .good .1 .1 .0 .1 .0 .1 in
     let h : l .i < length (a .t3) = omega (arith, n, e .before .before .loop-test .taken) in
     rw (free-length (l .out) (l .count), k .before .on-record .ensures, k .kind-of .ensures)
-    (ending-room (a .o) (a .start) (a .t3) (l .held) (l .i) (e .before .before .loop-test .taken) h (rw (e .before .is-end .ensures) at (e .if1 .left)) (now (a .out)) (l .out) (l .count) (l .inv .1) (l .inv .0))
+    (ending-room (a .o) (a .start) (a .t3) (l .held) (l .i) h (rw (e .before .is-end .ensures) at (e .if1 .left)) (now (a .out)) (l .out) (l .count) (l .inv .1) (l .inv .0))
 
 after-requires : tie.Need-after-requires Inv-loop μ-loop
 after-requires c κs = search needs
@@ -94,7 +94,7 @@ loop-again c =
     let n : length (a .t3) ≡ 8 = b .good .1 .1 .0 .1 .0 .1 in
     let h : l .i < length (a .t3) = omega (arith, n, e .before .before .loop-test .taken) in
     rw (c .after .ensures, k .before .on-record .ensures, k .kind-of .ensures)
-    (l .inv .0, ending-turn (a .o) (a .start) (a .t3) (l .held) (l .i) (e .before .before .loop-test .taken) h (rw (e .before .is-end .ensures) at (e .if1 .left)) (now (a .out)) (l .out) _ (l .count) _ (l .inv .1) (rw (k .before .on-record .ensures, k .kind-of .ensures) at (p .put-code .ensures)))
+    (l .inv .0, ending-turn (a .o) (a .start) (a .t3) (l .held) (l .i) h (rw (e .before .is-end .ensures) at (e .if1 .left)) (now (a .out)) (l .out) _ (l .count) _ (l .inv .1) (rw (k .before .on-record .ensures, k .kind-of .ensures) at (p .put-code .ensures)))
 
 same-length-2 : tie.Need-same-length-2 Inv-loop μ-loop
 same-length-2 c = search needs

@@ -7,6 +7,9 @@ use denote.Ref.{now}
 use lib.ListN.{length, getD}
 use borrow.Author.Tests.{leb-true, not-true, not-false}
 use Rattle.laws.proofs.Filled.{free-length}
+use Rattle.sender.specs.Item.{converted}
+use Rattle.sender.specs.Run.{most}
+use Rattle.sender.proofs.Few.{byte-most}
 use Rattle.sender.proofs.Sending.{Sending, sending, all-sent, no-room, at-stop, sends-on}
 use borrow.Author.Needs.{needs}
 use Rattle.sender.proofs.runs.send.Statement.{statement}
@@ -50,7 +53,7 @@ returns c =
     let l = m .loop in
     let a = m .before .before .before .before .args in
     rw (c .sent .ensures)
-    (no-room (a .o) (a .start) (a .first) (a .until) (now (a .bytes)) (now (a .out)) (l .sender) (l .asks) (l .taken) (l .out) (l .count) (l .inv) (t .loop-test .taken) (rw (h .has-room .ensures) at (not-true (h .has-room .result) (g .if1 .taken))))
+    (no-room (a .o) (a .start) (a .first) (a .until) (now (a .bytes)) (now (a .out)) (l .sender) (l .asks) (l .taken) (l .out) (l .count) (l .inv) (t .loop-test .taken) (rw (h .has-room .ensures .0) at (not-true (h .has-room .result) (g .if1 .taken))))
 
 stops-requires : tie.Need-stops-requires Inv-loop μ-loop
 stops-requires c κs = search needs
@@ -91,8 +94,12 @@ put-asked-requires c κs =
     let v = c .before in
     let g = v .before .before .before .before in
     let h = g .before in
-    let l = h .before .before .before .loop in
-    rw (free-length (l .out) (l .count), v .convert-as .ensures) (leb-true _ _ (rw (h .has-room .ensures) at (not-false (h .has-room .result) (g .if1 .left))))
+    let m = h .before .before .before in
+    let l = m .loop in
+    let a = m .before .before .before .before .args in
+    let x = converted (l .asks) (getD (now (a .bytes)) (l .taken) 0) in
+    let room : most ≤ length (l .out) - l .count = leb-true _ _ (rw (h .has-room .ensures .0) at (not-false (h .has-room .result) (g .if1 .left))) in
+    rw (free-length (l .out) (l .count), v .convert-as .ensures) (omega (arith, room, byte-most (a .o) (h .has-room .ensures .1) (l .sender) x))
 
 next-asks-requires : tie.Need-next-asks-requires Inv-loop μ-loop
 next-asks-requires c κs = search needs
@@ -124,7 +131,7 @@ loop-again c =
     let l = m .loop in
     let a = m .before .before .before .before .args in
     rw (c .before .before .next-asks .ensures)
-    (sends-on (a .o) (a .start) (a .first) (a .until) (now (a .bytes)) (now (a .out)) (l .sender) (l .asks) (l .taken) (l .out) (l .count) (l .inv) (t .loop-test .taken) (rw (h .has-room .ensures) at (not-false (h .has-room .result) (g .if1 .left))) (rw (f .before .stops .ensures) at (f .if2 .left)) _ (p .put-asked .result) (rw (v .convert-as .ensures) at (p .put-asked .ensures)))
+    (sends-on (a .o) (a .start) (a .first) (a .until) (now (a .bytes)) (now (a .out)) (l .sender) (l .asks) (l .taken) (l .out) (l .count) (l .inv) (t .loop-test .taken) (rw (h .has-room .ensures .0) at (not-false (h .has-room .result) (g .if1 .left))) (rw (f .before .stops .ensures) at (f .if2 .left)) _ (p .put-asked .result) (rw (v .convert-as .ensures) at (p .put-asked .ensures)))
 
 sent-requires-3 : tie.Need-sent-requires-3 Inv-loop μ-loop
 sent-requires-3 c κs = search needs
