@@ -54,7 +54,7 @@ fn width(n: u8) -> usize
 }
 
 // The bytes of `word` from `at` in `out`. Gives the place after them.
-fn put(word: &[u8], out: &mut [u8], at: usize) -> usize
+pub fn put(word: &[u8], out: &mut [u8], at: usize) -> usize
     requires { ⌜ at + length (now word) ≤ length (now out) ⌝ }
     ensures { λ r. ⌜ Put (now (out .entry)) at (now (word .entry)) (now (out .exit)) r ⌝ }
 {

@@ -1,59 +1,59 @@
--- What is counted first and then sent where it fits: all of it is taken, and the codes are those of its items.
+-- Codes made in a buffer of their own: they stand at its front, and go into the lent one where all of them fit.
 -- Assumes nothing.
-use Prim.Native.Nat.{ℕ, _+_, _-_, _≤_, _<_}
-use mathlib.Core.Path.{_≡_, refl, sym, ap, _∙_}
+use Prim.Native.Nat.{ℕ, _≤_, _<_}
+use mathlib.Core.Path.{_≡_, refl, ap, _∙_}
 use mathlib.Core.Bool.{true}
-use mathlib.Core.List.{List, [], _∷_, _++_, append-nil}
+use mathlib.Core.List.{List, [], _∷_, append-nil}
 use native.Mathlib.Omega.{arith}
+use native.Mathlib.Nat.{zero-add}
 use borrow.Author.Tests.{le-leb, lt-leb}
-use lib.ListN.{length, length-append}
-use Rattle.sender.specs.declared.Item.{Item}
+use lib.ListN.{length, take, drop}
+use lib.Seq.{take-append-seam}
+use Rattle.message.specs.Made.{Put}
+use Rattle.settings.specs.Options.{endingCodes}
 use Rattle.sender.specs.declared.Sent.{Sent}
-use Rattle.sender.specs.Item.{items, afterItems, wanted, wantedBy, wantedText}
-use Rattle.sender.specs.Run.{counted, Run, runOf, SendsRun}
-use Rattle.sender.proofs.Append.{items-append}
-use Rattle.step.specs.Names.{Case, Settings, Wanted, Sender, Text, Codes, Never, State}
-use Rattle.step.specs.State.{withSender}
-use Rattle.step.specs.Step.{sends}
+use Rattle.sender.specs.Item.{items, afterItems, wanted, wantedText}
+use Rattle.sender.specs.Run.{asksNext, caseAsked, Run, runOf, SendsRun}
+use Rattle.sender.proofs.Sending.{text-run}
+use Rattle.step.specs.Names.{Text, Codes, Never, State, Took}
+use Rattle.step.specs.State.{withSender, withIncoming}
+use Rattle.step.specs.Step.{sends, carried}
 use Rattle.step.specs.Byte.{Puts, noRoom}
-
-module _ (o : Settings) where
-  -- host text
-  pub text-sent : (s : Sender) (bs : List ℕ) (room : ℕ) → length (items o s (wantedText bs)) ≤ room
-      → runOf o s Text Never bs room .codes ≡ items o s (wantedText bs)
-  text-sent s [] room h = refl
-  text-sent s (b ∷ bs) room h =
-      let ws = wantedBy Text b in
-      let cs = items o s ws in
-      let more = items o (afterItems o s ws) (wantedText bs) in
-      let l : length (items o s (ws ++ wantedText bs)) ≡ length cs + length more = ap length (items-append o s ws (wantedText bs)) ∙ length-append cs more in
-      let u : length cs ≤ room = omega (arith, h, l) in
-      let v : length more ≤ room - length cs = omega (arith, h, l) in
-      rw (le-leb (length cs) room u, text-sent (afterItems o s ws) bs (room - length cs) v, items-append o s ws (wantedText bs))
-
-  -- one TU code
-  pub code-sent : (s : Sender) (case : Case) (c room : ℕ) → length (items o s (wanted case c ∷ [])) ≤ room
-      → runOf o s (Codes case) Never (c ∷ []) room .codes ≡ items o s (wanted case c ∷ [])
-  code-sent s case c room h = rw (le-leb (length (items o s (wanted case c ∷ []))) room h, append-nil (items o s (wanted case c ∷ [])))
 
 -- what does not fit
 pub unfit : (t : State) (new old : List ℕ) → length old < length new → Puts t new old old (noRoom t)
 unfit t new old h = record { fits = rw (lt-leb (length new) (length old) h); state = refl; count = refl; places = refl }
 
--- items counted before they are sent
-module _ (s : State) (ws : List Wanted) (x : Item) (e : x ≡ counted (s .settings) (s .sender) ws) (t : State) (f : t ≡ withSender s (x .sender)) (old : List ℕ) where
-  counts : x .count ≡ length (sends s ws .line)
-  counts = ap (λ (u : Item). u .count) e
+-- what fits
+pub fit : (t : State) (new old now : List ℕ) (end : ℕ) → length new ≤ length old → Put old 0 new now end → Puts t new old now (record { fits = true; state = t; count = end })
+fit t new old now end h p = record { fits = rw (le-leb (length new) (length old) h); state = refl; count = rw zero-add at (p .place); places = rw zero-add at (p .contents) }
 
-  after : t ≡ sends s ws .state
-  after = f ∙ ap (λ (u : Item). withSender s (u .sender)) e
+-- the codes of a run stand at the front of the buffer that they were made in
+made : (d : Run) (old now : List ℕ) (x : Sent) → SendsRun d old now x → take (x .count) now ≡ d .codes
+made d old now x f = rw (f .places .places, f .places .count) (take-append-seam (d .codes) (drop (length (d .codes)) old))
 
-  pub held-back : length old < x .count → Puts (sends s ws .state) (sends s ws .line) old old (noRoom t)
-  held-back h = rw after (unfit (sends s ws .state) (sends s ws .line) old (omega (arith, h, counts)))
+module _ (s : State) (room codes : List ℕ) (x : Sent) (wide : length room ≡ 36) (out now : List ℕ) (r : Took) where
+  -- host text
+  pub text-put : length (endingCodes (s .settings)) ≡ 8 → (bs : List ℕ) → length bs ≤ 2
+      → SendsRun (runOf (s .settings) (s .sender) Text Never bs (length room)) room codes x
+      → Puts (withSender s (x .sender)) (take (x .count) codes) out now r
+      → Puts (sends s (wantedText bs) .state) (sends s (wantedText bs) .line) out now r
+  text-put eight bs h f p =
+      let e = text-run (s .settings) eight (s .sender) bs (length room) (omega (arith, h, wide)) in
+      let a : x .sender ≡ afterItems (s .settings) (s .sender) (wantedText bs) = ap (λ (u : Sent). u .sender) (f .gives) ∙ ap (λ (u : Run). u .sender) e in
+      let m : take (x .count) codes ≡ items (s .settings) (s .sender) (wantedText bs) = made _ room codes x f ∙ ap (λ (u : Run). u .codes) e in
+      rw (a, m) at p
 
-  pub put : (d : Run) (now : List ℕ) (y : Sent) → x .count ≤ length old → (length (sends s ws .line) ≤ length old → d .codes ≡ sends s ws .line) → SendsRun d old now y
-      → Puts (sends s ws .state) (sends s ws .line) old now (record { fits = true; state = t; count = y .count })
-  put d now y h same p =
-      let u : length (sends s ws .line) ≤ length old = omega (arith, h, counts) in
-      let q = rw (same u) at (p .places) in
-      record { fits = rw (le-leb (length (sends s ws .line)) (length old) u); state = after; count = q .count; places = q .places }
+  -- one TU code
+  pub code-put : (c : ℕ)
+      → SendsRun (runOf (s .settings) (s .sender) (Codes (s .incoming)) Never (c ∷ []) (length room)) room codes x
+      → Puts (withSender (withIncoming s (caseAsked (x .asks))) (x .sender)) (take (x .count) codes) out now r
+      → Puts (carried s c .state) (carried s c .line) out now r
+  code-put c f p =
+      let ws = wanted (s .incoming) c ∷ [] in
+      let e : runOf (s .settings) (s .sender) (Codes (s .incoming)) Never (c ∷ []) (length room) ≡ record { sender = afterItems (s .settings) (s .sender) ws; asks = asksNext (s .settings) (Codes (s .incoming)) c; taken = 1; codes = items (s .settings) (s .sender) ws } = rw (wide, append-nil (items (s .settings) (s .sender) ws)) in
+      let g = f .gives in
+      let a = ap (λ (u : Sent). u .sender) g ∙ ap (λ (u : Run). u .sender) e in
+      let b = ap (λ (u : Sent). u .asks) g ∙ ap (λ (u : Run). u .asks) e in
+      let m = made _ room codes x f ∙ ap (λ (u : Run). u .codes) e in
+      rw (a, b, m) at p

@@ -1,7 +1,8 @@
-// A byte's codes to the line, into the free part of the buffer itself: counted first, and sent where all of them fit.
+// A byte's codes to the line, made in a buffer of their own and put into the free part of the lent one where all of them fit.
 ghost use mathlib.Core.Path.{_≡_};
 ghost use Prim.Native.Nat.{_≤_};
-ghost use lib.ListN.{length};
+ghost use lib.ListN.{length, take};
+ghost use Rattle.settings.specs.Laws.{Sound};
 ghost use Rattle.sender.specs.Item.{wantedText};
 ghost use Rattle.step.specs.Names.{Host as Names·Host};
 ghost use Rattle.step.specs.Route.{route};
@@ -19,32 +20,47 @@ use crate::states::with_sender;
 use sender::Asks;
 use sender::Until;
 
-// Text to the printer: a byte, and before it the `/` where that was held.
+// The first n codes at the front of the buffer, if all of them fit.
+fn put_codes(s: State, codes: [u8; 36], n: usize, out: &mut [u8]) -> Took
+    requires { ⌜ n ≤ 36 ⌝ }
+    ensures { λ r. ⌜ Puts s (take n codes) (now (out .entry)) (now (out .exit)) r ⌝ }
+{
+    if out.len() < n {
+        return no_room(s);
+    }
+    let end = message::put(&codes[0..n], out, 0);
+    Took {
+        fits: true,
+        state: s,
+        count: end,
+    }
+}
+
+// Text to the printer: a byte, and before it the `/` where that was held. All codes are made before one is put.
 fn put_items(s: State, bytes: &[u8], out: &mut [u8]) -> Took
-    requires { ⌜ length (now bytes) ≤ 2 ⌝ }
+    requires { ⌜ (length (now bytes) ≤ 2) × Sound (s .settings) (s .connection) ⌝ }
     ensures { λ r. ⌜
         Puts (sends s (wantedText (now (bytes .entry))) .state) (sends s (wantedText (now (bytes .entry))) .line) (now (out .entry)) (now (out .exit)) r
         ⌝ }
 {
     let settings = s.settings;
     let sender = s.sender;
-    let x = sender::runs::count_text(settings, sender, bytes);
+    let mut codes = [0u8; 36];
+    let x = sender::runs::send(
+        settings,
+        sender,
+        Asks::Text,
+        Until::Never,
+        bytes,
+        &mut codes,
+    );
     let after = x.sender;
-    let next = with_sender(s, after);
-    if out.len() < x.count {
-        return no_room(next);
-    }
-    let y = sender::runs::send(settings, sender, Asks::Text, Until::Never, bytes, out);
-    Took {
-        fits: true,
-        state: next,
-        count: y.count,
-    }
+    put_codes(with_sender(s, after), codes, x.count, out)
 }
 
 // Text to the printer, where that is its route; otherwise it is dropped.
 pub fn put_text(s: State, bytes: &[u8], out: &mut [u8]) -> Took
-    requires { ⌜ length (now bytes) ≤ 2 ⌝ }
+    requires { ⌜ (length (now bytes) ≤ 2) × Sound (s .settings) (s .connection) ⌝ }
     ensures { λ r. ⌜
         Puts (sends s (text (route (s .connection) Names·Host) (now (bytes .entry))) .state) (sends s (text (route (s .connection) Names·Host) (now (bytes .entry))) .line) (now (out .entry)) (now (out .exit)) r
         ⌝ }
@@ -58,27 +74,27 @@ pub fn put_text(s: State, bytes: &[u8], out: &mut [u8]) -> Took
     }
 }
 
-// A TU code to the printer.
+// A TU code to the printer. All codes are made before one is put.
 fn put_code(s: State, c: u8, out: &mut [u8]) -> Took
     ensures { λ r. ⌜ Puts (carried s c .state) (carried s c .line) (now (out .entry)) (now (out .exit)) r ⌝ }
 {
     let settings = s.settings;
     let sender = s.sender;
     let case = s.incoming;
-    let x = sender::runs::count(settings, sender, Asks::Codes(case), c);
-    let after = x.sender;
-    let then = sender::runs::incoming(settings, case, code::kind_of(c));
-    let next = with_sender(with_incoming(s, then), after);
-    if out.len() < x.count {
-        return no_room(next);
-    }
     let one = [c];
-    let y = sender::runs::send(settings, sender, Asks::Codes(case), Until::Never, &one, out);
-    Took {
-        fits: true,
-        state: next,
-        count: y.count,
-    }
+    let mut codes = [0u8; 36];
+    let x = sender::runs::send(
+        settings,
+        sender,
+        Asks::Codes(case),
+        Until::Never,
+        &one,
+        &mut codes,
+    );
+    let after = x.sender;
+    let asks = x.asks;
+    let next = with_incoming(s, sender::runs::case_asked(asks));
+    put_codes(with_sender(next, after), codes, x.count, out)
 }
 
 // One TU code, with the part of the line buffer that is free: to the printer, where that is its route; otherwise it is dropped.
