@@ -1,5 +1,5 @@
-/* The line box for the boards' C. Link libboard.a, which `rt staticlib board` writes to target/staticlib/; today it is for x86-64
- * alone.
+/* The line box for the boards' C. Link libboard.a, which `tools/archive TARGET [SIZE|SPEED]` writes to target/TARGET/, for x86_64,
+ * aarch64, armv7, thumbv7em, thumbv6m, riscv32 and riscv64; for wasm32 it writes linebox.wasm. docs/TARGETS.md says more of each.
  *
  * The caller keeps the box's state as 128 bytes. Calls keep nothing between them: a copy of the 128 bytes is a copy of the box, and
  * two states are two boxes.
@@ -25,6 +25,14 @@
  * size_t, has 32.
  *
  * A null pointer goes with length 0. The state, done and at are never null.
+ *
+ * The archive has no data but constants, and calls no function but these; a board without a C library supplies those that its linker
+ * asks for:
+ *   needed on every target:              memcpy memmove memset
+ *   needed on armv7 and thumbv6m, SIZE:  __aeabi_uidiv __aeabi_uidivmod
+ *
+ * On Thumb (v7-M) the archive takes 12 kB of program memory if made for SIZE, and 24 kB for SPEED, and a call takes at most 1,700 bytes of
+ * stack beside those of the functions above. `benchmark/size` measures both.
  *
  * After a power cut, the board writes the connection again before any text: the printer may have moved, and only writing a connection
  * makes the record unknown. */
