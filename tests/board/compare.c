@@ -17,7 +17,7 @@ static uint64_t next(void) {
   return z ^ (z >> 31);
 }
 
-static unsigned below(unsigned n) { return (unsigned)((next() >> 33) % n); }
+static unsigned below(unsigned n) { return (unsigned)(next() >> 33) % n; }
 static unsigned between(unsigned low, unsigned high) { return low + below(high - low + 1); }
 static int percent(unsigned n) { return below(100) < n; }
 
@@ -110,7 +110,9 @@ static void show_bytes(const char *name, const uint8_t *bytes, uint64_t n) {
 }
 
 static void show_side(const char *name, const struct call *c, const struct side *s) {
-  printf("  %s: answer %u, done %lu %lu %lu\n", name, s->answer, s->done[1], s->done[2], s->done[3]);
+  printf("  %s: answer %u, done", name, s->answer);
+  for (int i = 1; i < 4; i++) printf(" %llu", (unsigned long long)s->done[i]);
+  printf("\n");
   for (int i = 0; i < LINEBOX_STATE; i++)
     if (s->state[GUARD + i] != c->state[i]) printf("    state[%d]: %u -> %u\n", i, c->state[i], s->state[GUARD + i]);
   for (int i = 0; i < 2 && c->kind != FIND; i++) {

@@ -1,8 +1,8 @@
-/* The kit's clang comes without headers; this folder declares what the tests call, for x86-64. */
+/* The kit's clang comes without headers; this folder declares what the tests call, for every processor. */
 #ifndef STDINT_H
 #define STDINT_H
-typedef unsigned char uint8_t;
-typedef unsigned short uint16_t;
-typedef unsigned int uint32_t;
-typedef unsigned long uint64_t;
+typedef __UINT8_TYPE__ uint8_t;
+typedef __UINT16_TYPE__ uint16_t;
+typedef __UINT32_TYPE__ uint32_t;
+typedef __UINT64_TYPE__ uint64_t;
 #endif
