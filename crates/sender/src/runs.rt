@@ -27,7 +27,7 @@ fn unshifted_by(on: bool, case: Case) -> Case
 }
 
 // Mode 4's incoming reading case after a code of this kind.
-pub fn incoming(o: Settings, case: Case, k: Kind) -> Case
+fn incoming(o: Settings, case: Case, k: Kind) -> Case
     ensures { λ r. ⌜ r ≡ incoming o case k ⌝ }
 {
     match k {
