@@ -23,7 +23,7 @@ fn counts(c: Called) -> [u64; 3]
 pub extern "C" fn linebox_fresh(state: &mut [u8; 128]) -> u32
     ensures { λ r. ⌜ (r ≡ 0) × (now (state .exit) ≡ spelt freshBox) ⌝ }
 {
-    *state = save(step::soundness::fresh());
+    save(step::soundness::fresh(), state);
     0
 }
 
@@ -40,7 +40,7 @@ pub extern "C" fn linebox_host(
         Boarded Names·Host (now (state .entry)) (now (input .entry)) (now (line .entry)) (now (host .entry)) (now (state .exit)) (now (line .exit)) (now (host .exit)) (now (done .exit)) r
         ⌝ }
 {
-    let x = load(*state);
+    let x = load(state);
     if !x.spelt {
         *done = [0, 0, 0];
         return 3;
@@ -49,7 +49,7 @@ pub extern "C" fn linebox_host(
     let c = linebox::calls::host(s, input, 0, line, host);
     let next = c.state;
     let answer = c.answer;
-    *state = save(next);
+    save(next, state);
     *done = counts(c);
     number_of(answer)
 }
@@ -67,7 +67,7 @@ pub extern "C" fn linebox_line(
         Boarded Names·Line (now (state .entry)) (now (codes .entry)) (now (host .entry)) (now (tu .entry)) (now (state .exit)) (now (host .exit)) (now (tu .exit)) (now (done .exit)) r
         ⌝ }
 {
-    let x = load(*state);
+    let x = load(state);
     if !x.spelt {
         *done = [0, 0, 0];
         return 3;
@@ -76,7 +76,7 @@ pub extern "C" fn linebox_line(
     let c = linebox::calls::line(s, codes, 0, host, tu);
     let next = c.state;
     let answer = c.answer;
-    *state = save(next);
+    save(next, state);
     *done = counts(c);
     number_of(answer)
 }
@@ -93,7 +93,7 @@ pub extern "C" fn linebox_tu(
         BoardedTu (now (state .entry)) (now (codes .entry)) (now (line .entry)) (now (state .exit)) (now (line .exit)) (now (done .exit)) r
         ⌝ }
 {
-    let x = load(*state);
+    let x = load(state);
     if !x.spelt {
         *done = [0, 0];
         return 3;
@@ -102,7 +102,7 @@ pub extern "C" fn linebox_tu(
     let c = linebox::calls::tu(s, codes, 0, line);
     let next = c.state;
     let answer = c.answer;
-    *state = save(next);
+    save(next, state);
     *done = [c.taken as u64, c.first as u64];
     number_of(answer)
 }

@@ -4,7 +4,7 @@ use Prim.Native.Nat.{ℕ}
 use mathlib.Core.Path.{_≡_, refl}
 use mathlib.Core.Bool.{Bool, true, false}
 use mathlib.Core.List.{List, [], _∷_, _++_}
-use lib.ListN.{set, replicate}
+use lib.ListN.{length, set, replicate}
 use mir.Val.{boolByte}
 use Rattle.spelling.specs.Names.{Stage, Text, Swallow, Held, Begun, Lettered, Typed, Fields, Discard, Column, At, State}
 use Rattle.spelling.specs.Names.column
@@ -50,4 +50,12 @@ module _ (s : State) where
   filled-spelt = go _ _ (two (s .sender .held .column)) (four (s .reader .stage))
     where
       go : (y z : List ℕ) → part y 0 2 ≡ y → part z 0 4 ≡ z → filled y z ≡ laid y z
+      go y z f g = rw (← f, ← g)
+
+  -- and bytes that are it are 128
+  pub as-long : (b : List ℕ) → b ≡ spelt s → length b ≡ 128
+  unfolding spelt
+  as-long b e = rw e (go _ _ (two (s .sender .held .column)) (four (s .reader .stage)))
+    where
+      go : (y z : List ℕ) → part y 0 2 ≡ y → part z 0 4 ≡ z → length (laid y z) ≡ 128
       go y z f g = rw (← f, ← g)

@@ -1,5 +1,6 @@
 // What 128 bytes spell: each field from its offset, and the test that they are that state's spelling to the last byte.
 ghost use mathlib.Core.Path.{_≡_};
+ghost use lib.ListN.{length};
 ghost use Rattle.laws.specs.Same.{same};
 ghost use Rattle.spelling.specs.Spelling.{caseOf, columnOf, connectionOf, formOf, knownOf, lastOf, loaded, part, plainStage, readerOf, senderOf, settingsOf, stageOf, stateOf, verbOf};
 use crate::Loaded;
@@ -106,8 +107,8 @@ fn stage_of(n: u8, x: u8, y: u8, z: u8) -> Stage
 }
 
 // The settings: each option from its offset, and string 90 from offset 6 on.
-fn settings_of(b: [u8; 128]) -> Settings
-    ensures { λ r. ⌜ r ≡ settingsOf b ⌝ }
+fn settings_of(b: &[u8; 128]) -> Settings
+    ensures { λ r. ⌜ r ≡ settingsOf (now (b .entry)) ⌝ }
 {
     Settings {
         values: [b[0], b[1], b[2], b[3], b[4], b[5]],
@@ -116,8 +117,8 @@ fn settings_of(b: [u8; 128]) -> Settings
 }
 
 // The connection, from offset 14 on.
-fn connection_of(b: [u8; 128]) -> Connection
-    ensures { λ r. ⌜ r ≡ connectionOf b ⌝ }
+fn connection_of(b: &[u8; 128]) -> Connection
+    ensures { λ r. ⌜ r ≡ connectionOf (now (b .entry)) ⌝ }
 {
     Connection {
         mode: b[14],
@@ -127,8 +128,8 @@ fn connection_of(b: [u8; 128]) -> Connection
 }
 
 // The record and the last item, from offset 17 on.
-fn sender_of(b: [u8; 128]) -> Sender
-    ensures { λ r. ⌜ r ≡ senderOf b ⌝ }
+fn sender_of(b: &[u8; 128]) -> Sender
+    ensures { λ r. ⌜ r ≡ senderOf (now (b .entry)) ⌝ }
 {
     Sender {
         held: Record {
@@ -140,8 +141,8 @@ fn sender_of(b: [u8; 128]) -> Sender
 }
 
 // The fields that the command reader has read, from offset 27 on.
-fn values_of(b: [u8; 128]) -> [u8; 11]
-    ensures { λ r. ⌜ r ≡ part b 27 11 ⌝ }
+fn values_of(b: &[u8; 128]) -> [u8; 11]
+    ensures { λ r. ⌜ r ≡ part (now (b .entry)) 27 11 ⌝ }
 {
     [
         b[27],
@@ -159,8 +160,8 @@ fn values_of(b: [u8; 128]) -> [u8; 11]
 }
 
 // The command reader, from offset 23 on.
-fn reader_of(b: [u8; 128]) -> Reader
-    ensures { λ r. ⌜ r ≡ readerOf b ⌝ }
+fn reader_of(b: &[u8; 128]) -> Reader
+    ensures { λ r. ⌜ r ≡ readerOf (now (b .entry)) ⌝ }
 {
     Reader {
         stage: stage_of(b[23], b[24], b[25], b[26]),
@@ -169,8 +170,8 @@ fn reader_of(b: [u8; 128]) -> Reader
 }
 
 // The whole state.
-fn state_of(b: [u8; 128]) -> State
-    ensures { λ r. ⌜ r ≡ stateOf b ⌝ }
+fn state_of(b: &[u8; 128]) -> State
+    ensures { λ r. ⌜ r ≡ stateOf (now (b .entry)) ⌝ }
 {
     State {
         settings: settings_of(b),
@@ -182,9 +183,10 @@ fn state_of(b: [u8; 128]) -> State
     }
 }
 
-// Whether the bytes are alike, to the last one.
-fn same(a: [u8; 128], b: [u8; 128]) -> bool
-    ensures { λ r. ⌜ r ≡ same a b ⌝ }
+// Whether 128 bytes are alike, to the last one.
+fn same(a: &[u8], b: &[u8]) -> bool
+    requires { ⌜ (length (now a) ≡ 128) × (length (now b) ≡ 128) ⌝ }
+    ensures { λ r. ⌜ r ≡ same (now (a .entry)) (now (b .entry)) ⌝ }
 {
     let mut alike = true;
     let mut i = 0;
@@ -196,12 +198,14 @@ fn same(a: [u8; 128], b: [u8; 128]) -> bool
 }
 
 // The state that the bytes read as, and whether they spell it.
-pub fn load(b: [u8; 128]) -> Loaded
-    ensures { λ r. ⌜ r ≡ loaded b ⌝ }
+pub fn load(b: &[u8; 128]) -> Loaded
+    ensures { λ r. ⌜ r ≡ loaded (now (b .entry)) ⌝ }
 {
     let state = state_of(b);
+    let mut again = [0u8; 128];
+    save(state, &mut again);
     Loaded {
-        spelt: same(b, save(state)),
+        spelt: same(b, &again),
         state,
     }
 }

@@ -93,10 +93,9 @@ fn stage_bytes(s: Stage) -> [u8; 4]
 }
 
 // The settings: string 90 from offset 6 on, and each option at its offset.
-fn with_settings(b: [u8; 128], s: Settings) -> [u8; 128]
-    ensures { λ r. ⌜ r ≡ setsAt (puts b 6 (stringBytes s)) offsets 0 (s .values) ⌝ }
+fn put_settings(bytes: &mut [u8; 128], s: Settings)
+    ensures { λ r. ⌜ now (bytes .exit) ≡ setsAt (puts (now (bytes .entry)) 6 (stringBytes s)) offsets 0 (s .values) ⌝ }
 {
-    let mut bytes = b;
     let values = s.values;
     let string = s.string;
     bytes[6] = string[0];
@@ -113,25 +112,21 @@ fn with_settings(b: [u8; 128], s: Settings) -> [u8; 128]
     bytes[3] = values[3];
     bytes[4] = values[4];
     bytes[5] = values[5];
-    bytes
 }
 
 // The connection, from offset 14 on.
-fn with_connection(b: [u8; 128], c: Connection) -> [u8; 128]
-    ensures { λ r. ⌜ r ≡ puts b 14 (connectionBytes c) ⌝ }
+fn put_connection(bytes: &mut [u8; 128], c: Connection)
+    ensures { λ r. ⌜ now (bytes .exit) ≡ puts (now (bytes .entry)) 14 (connectionBytes c) ⌝ }
 {
-    let mut bytes = b;
     bytes[14] = c.mode;
     bytes[15] = c.port;
     bytes[16] = c.speed;
-    bytes
 }
 
 // The record and the last item, from offset 17 on.
-fn with_sender(b: [u8; 128], s: Sender) -> [u8; 128]
-    ensures { λ r. ⌜ r ≡ puts b 17 (senderBytes s) ⌝ }
+fn put_sender(bytes: &mut [u8; 128], s: Sender)
+    ensures { λ r. ⌜ now (bytes .exit) ≡ puts (now (bytes .entry)) 17 (senderBytes s) ⌝ }
 {
-    let mut bytes = b;
     let held = s.held;
     let case = held.case;
     let column = held.column;
@@ -141,27 +136,23 @@ fn with_sender(b: [u8; 128], s: Sender) -> [u8; 128]
     bytes[18] = part[0];
     bytes[19] = part[1];
     bytes[20] = last_byte(last);
-    bytes
 }
 
 // The command reader's stage, from offset 23 on.
-fn with_stage(b: [u8; 128], s: Stage) -> [u8; 128]
-    ensures { λ r. ⌜ r ≡ puts b 23 (stageBytes s) ⌝ }
+fn put_stage(bytes: &mut [u8; 128], s: Stage)
+    ensures { λ r. ⌜ now (bytes .exit) ≡ puts (now (bytes .entry)) 23 (stageBytes s) ⌝ }
 {
-    let mut bytes = b;
     let part = stage_bytes(s);
     bytes[23] = part[0];
     bytes[24] = part[1];
     bytes[25] = part[2];
     bytes[26] = part[3];
-    bytes
 }
 
 // The fields that the command reader has read, from offset 27 on.
-fn with_values(b: [u8; 128], values: [u8; 11]) -> [u8; 128]
-    ensures { λ r. ⌜ r ≡ puts b 27 (part values 0 11) ⌝ }
+fn put_values(bytes: &mut [u8; 128], values: [u8; 11])
+    ensures { λ r. ⌜ now (bytes .exit) ≡ puts (now (bytes .entry)) 27 (part values 0 11) ⌝ }
 {
-    let mut bytes = b;
     bytes[27] = values[0];
     bytes[28] = values[1];
     bytes[29] = values[2];
@@ -173,22 +164,19 @@ fn with_values(b: [u8; 128], values: [u8; 11]) -> [u8; 128]
     bytes[35] = values[8];
     bytes[36] = values[9];
     bytes[37] = values[10];
-    bytes
 }
 
 // The reading cases, at 21 and 22.
-fn with_cases(b: [u8; 128], reading: Case, incoming: Case) -> [u8; 128]
-    ensures { λ r. ⌜ r ≡ puts b 21 (caseByte reading ∷ caseByte incoming ∷ []) ⌝ }
+fn put_cases(bytes: &mut [u8; 128], reading: Case, incoming: Case)
+    ensures { λ r. ⌜ now (bytes .exit) ≡ puts (now (bytes .entry)) 21 (caseByte reading ∷ caseByte incoming ∷ []) ⌝ }
 {
-    let mut bytes = b;
     bytes[21] = case_byte(reading);
     bytes[22] = case_byte(incoming);
-    bytes
 }
 
-// The whole state.
-pub fn save(s: State) -> [u8; 128]
-    ensures { λ r. ⌜ r ≡ spelt s ⌝ }
+// The whole state, over whatever the bytes were.
+pub fn save(s: State, bytes: &mut [u8; 128])
+    ensures { λ r. ⌜ now (bytes .exit) ≡ spelt s ⌝ }
 {
     let settings = s.settings;
     let connection = s.connection;
@@ -198,7 +186,11 @@ pub fn save(s: State) -> [u8; 128]
     let reader = s.reader;
     let stage = reader.stage;
     let values = reader.values;
-    let front = with_connection(with_settings([0u8; 128], settings), connection);
-    let known = with_cases(with_sender(front, sender), reading, incoming);
-    with_values(with_stage(known, stage), values)
+    *bytes = [0u8; 128];
+    put_settings(bytes, settings);
+    put_connection(bytes, connection);
+    put_sender(bytes, sender);
+    put_cases(bytes, reading, incoming);
+    put_stage(bytes, stage);
+    put_values(bytes, values);
 }

@@ -12,7 +12,7 @@ save-requires : tie.Need-save-requires
 save-requires c κs = search needs
 
 returns : tie.Need-returns
-returns c = (refl, rw (c .save .ensures, c .before .fresh .ensures))
+returns c = (refl, rw (c .save .ensures, c .before .before .fresh .ensures))
 
 pub linebox-fresh-spec : {M : Type 1} → statement M
 linebox-fresh-spec = tie.close (tie.spec fresh-requires save-requires returns)

@@ -36,11 +36,12 @@ same-length-2 c = search needs
 
 returns-2 : tie.Need-returns-2
 returns-2 c =
-    let a = c .before .before .before .before .before .before .before .before .before .before .before .before .before .before .before .before .before .before .before .args in
-    let e = c .before .before .before .before .before .before .before .before .before .before .before .before .before .before .load .ensures in
-    let some = rw e at (not-false (c .before .before .before .before .before .before .before .before .before .before .before .before .before .before .load .result .spelt) (c .before .before .before .before .before .before .before .before .before .before .before .before .if1 .left)) in
-    rw (c .before .before .save .ensures, c .before .counts .ensures, c .number-of .ensures)
-    (boarded Line (a .state .now) (a .codes .now) _ _ (a .host .now) (a .tu .now) _ _ (c .before .before .before .before .before .before .before .before .line .result) some (rw e at (c .before .before .before .before .before .before .before .before .line .ensures)))
+    let h = c .before .before .before .before .before .before .before .before .before in
+    let x = h .before .before .before .before in
+    let e = x .before .before .load .ensures in
+    let a = x .before .before .before .before .before .before .before .args in
+    let some = rw e at (not-false (x .before .before .load .result .spelt) (x .if1 .left)) in
+    rw (c .before .before .save .ensures, c .before .counts .ensures, c .number-of .ensures) (boarded Line (a .state .now) (a .codes .now) _ _ (a .host .now) (a .tu .now) _ _ (h .line .result) some (rw e at (h .line .ensures)))
 
 pub linebox-line-spec : {M : Type 1} → statement M
 linebox-line-spec =

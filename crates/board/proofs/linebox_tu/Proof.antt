@@ -30,11 +30,12 @@ same-length c = search needs
 
 returns-2 : tie.Need-returns-2
 returns-2 c =
-    let a = c .before .before .before .before .before .before .before .before .before .before .before .before .before .before .before .args in
-    let e = c .before .before .before .before .before .before .before .before .before .before .before .load .ensures in
-    let some = rw e at (not-false (c .before .before .before .before .before .before .before .before .before .before .before .load .result .spelt) (c .before .before .before .before .before .before .before .before .before .if1 .left)) in
-    rw (c .before .before .save .ensures, c .number-of .ensures)
-    (boarded-one Tu (a .state .now) (a .codes .now) _ 0 (a .line .now) _ (c .before .before .before .before .before .before .tu .result) some (rw e at (c .before .before .before .before .before .before .tu .ensures)))
+    let h = c .before .before .before .before .before .before .before in
+    let x = h .before .before .before in
+    let e = x .before .before .load .ensures in
+    let a = x .before .before .before .before .before .before .args in
+    let some = rw e at (not-false (x .before .before .load .result .spelt) (x .if1 .left)) in
+    rw (c .before .before .save .ensures, c .number-of .ensures) (boarded-one Tu (a .state .now) (a .codes .now) _ 0 (a .line .now) _ (h .tu .result) some (rw e at (h .tu .ensures)))
 
 pub linebox-tu-spec : {M : Type 1} → statement M
 linebox-tu-spec =

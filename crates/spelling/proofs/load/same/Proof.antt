@@ -20,11 +20,11 @@ abbrev μ-loop : tie.MeasureT-loop
 loop-holds : tie.Need-loop-holds Inv-loop μ-loop
 loop-holds c = (search needs, refl)
 
-array-read-alike : tie.Need-array-read-alike Inv-loop μ-loop
-array-read-alike c = search needs
+shared-slice-read-alike : tie.Need-shared-slice-read-alike Inv-loop μ-loop
+shared-slice-read-alike c = search needs
 
-array-read-alike-2 : tie.Need-array-read-alike-2 Inv-loop μ-loop
-array-read-alike-2 c = search needs
+shared-slice-read-alike-2 : tie.Need-shared-slice-read-alike-2 Inv-loop μ-loop
+shared-slice-read-alike-2 c = search needs
 
 add-i : tie.Need-add-i Inv-loop μ-loop
 add-i c = search needs
@@ -34,23 +34,23 @@ loop-less c = search needs
 
 loop-again : tie.Need-loop-again Inv-loop μ-loop
 loop-again c =
-    let l = c .before .loop in
-    let a = c .before .before .args in
-    let m : length (a .t1) ≡ 128 = c .before .before .good .0 .1 .0 .1 in
-    let n : length (a .t2) ≡ 128 = c .before .before .good .1 .0 .1 .0 .1 in
-    let h : l .i < length (a .t1) = omega arith in
-    let k : l .i < length (a .t2) = omega arith in
-    (omega arith, l .inv .1 ∙ same-turn (a .t1) (a .t2) (l .i) (l .alike) h k)
+    let l = c .before .before .before .loop in
+    let a = c .before .before .before .before .args in
+    let m : length (a .a .now) ≡ 128 = search needs in
+    let n : length (a .b .now) ≡ 128 = search needs in
+    let h : l .i < length (a .a .now) = omega arith in
+    let k : l .i < length (a .b .now) = omega arith in
+    (omega arith, l .inv .1 ∙ same-turn (a .a .now) (a .b .now) (l .i) (l .alike) h k)
 
 returns : tie.Need-returns Inv-loop μ-loop
 returns c =
     let l = c .before .loop in
     let a = c .before .before .args in
-    let m : length (a .t1) ≡ 128 = c .before .before .good .0 .1 .0 .1 in
-    let n : length (a .t2) ≡ 128 = c .before .before .good .1 .0 .1 .0 .1 in
-    let h : length (a .t1) ≤ l .i = omega arith in
-    let k : length (a .t2) ≤ l .i = omega arith in
-    sym (l .inv .1 ∙ same-end (a .t1) (a .t2) (l .i) (l .alike) h k)
+    let m : length (a .a .now) ≡ 128 = search needs in
+    let n : length (a .b .now) ≡ 128 = search needs in
+    let h : length (a .a .now) ≤ l .i = omega arith in
+    let k : length (a .b .now) ≤ l .i = omega arith in
+    sym (l .inv .1 ∙ same-end (a .a .now) (a .b .now) (l .i) (l .alike) h k)
 
 pub same-spec : {M : Type 1} → statement M
 same-spec =
@@ -59,8 +59,8 @@ same-spec =
     Inv-loop
     μ-loop
     loop-holds
-    array-read-alike
-    array-read-alike-2
+    shared-slice-read-alike
+    shared-slice-read-alike-2
     add-i
     loop-less
     loop-again
