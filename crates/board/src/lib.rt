@@ -3,13 +3,37 @@ ghost use mathlib.Core.Path.{_≡_};
 ghost use mathlib.Core.List.{[], _∷_};
 ghost use Rattle.step.specs.State.{freshBox};
 ghost use Rattle.board.specs.Names.{Host as Names·Host, Line as Names·Line};
-ghost use Rattle.spelling.specs.Spelling.{spelt};
-ghost use Rattle.board.specs.Calls.{Boarded, BoardedTu};
+ghost use Rattle.spelling.specs.Spelling.{spelt, stateOf};
+ghost use Rattle.board.specs.Calls.{Boarded, BoardedTu, spellsSound};
 ghost use Rattle.board.specs.Finds.{Finds};
 use linebox::Called;
+use linebox::calls::take_host;
+use linebox::calls::take_line;
+use linebox::calls::take_tu;
 use linebox::number_of;
-use spelling::load::load;
+use spelling::load::is_spelling;
+use spelling::load::state_of;
 use spelling::save::save;
+use step::State;
+use step::soundness::fresh;
+use step::soundness::is_sound;
+
+// What the state's bytes read as, and whether they are the spelling of a sound state.
+struct Opened {
+    sound: bool,
+    state: State,
+}
+
+// The state that a call starts from, where its bytes are the spelling of a sound one.
+fn open_state(b: &[u8; 128]) -> Opened
+    ensures { λ r. ⌜ (r .sound ≡ spellsSound (now (b .entry))) × (r .state ≡ stateOf (now (b .entry))) ⌝ }
+{
+    let state = state_of(b);
+    Opened {
+        sound: is_spelling(b, state) & is_sound(state),
+        state,
+    }
+}
 
 // What was taken, and what was written to each buffer in the order lent.
 fn counts(c: Called) -> [u64; 3]
@@ -23,7 +47,7 @@ fn counts(c: Called) -> [u64; 3]
 pub extern "C" fn linebox_fresh(state: &mut [u8; 128]) -> u32
     ensures { λ r. ⌜ (r ≡ 0) × (now (state .exit) ≡ spelt freshBox) ⌝ }
 {
-    save(step::soundness::fresh(), state);
+    save(fresh(), state);
     0
 }
 
@@ -40,13 +64,13 @@ pub extern "C" fn linebox_host(
         Boarded Names·Host (now (state .entry)) (now (input .entry)) (now (line .entry)) (now (host .entry)) (now (state .exit)) (now (line .exit)) (now (host .exit)) (now (done .exit)) r
         ⌝ }
 {
-    let x = load(state);
-    if !x.spelt {
+    let x = open_state(state);
+    if !x.sound {
         *done = [0, 0, 0];
         return 3;
     }
     let s = x.state;
-    let c = linebox::calls::host(s, input, 0, line, host);
+    let c = take_host(s, input, line, host);
     let next = c.state;
     let answer = c.answer;
     save(next, state);
@@ -67,13 +91,13 @@ pub extern "C" fn linebox_line(
         Boarded Names·Line (now (state .entry)) (now (codes .entry)) (now (host .entry)) (now (tu .entry)) (now (state .exit)) (now (host .exit)) (now (tu .exit)) (now (done .exit)) r
         ⌝ }
 {
-    let x = load(state);
-    if !x.spelt {
+    let x = open_state(state);
+    if !x.sound {
         *done = [0, 0, 0];
         return 3;
     }
     let s = x.state;
-    let c = linebox::calls::line(s, codes, 0, host, tu);
+    let c = take_line(s, codes, host, tu);
     let next = c.state;
     let answer = c.answer;
     save(next, state);
@@ -93,13 +117,13 @@ pub extern "C" fn linebox_tu(
         BoardedTu (now (state .entry)) (now (codes .entry)) (now (line .entry)) (now (state .exit)) (now (line .exit)) (now (done .exit)) r
         ⌝ }
 {
-    let x = load(state);
-    if !x.spelt {
+    let x = open_state(state);
+    if !x.sound {
         *done = [0, 0];
         return 3;
     }
     let s = x.state;
-    let c = linebox::calls::tu(s, codes, 0, line);
+    let c = take_tu(s, codes, line);
     let next = c.state;
     let answer = c.answer;
     save(next, state);

@@ -31,7 +31,7 @@ fn ended(answer: Answer, taken: usize, first: usize, second: usize, state: State
 
 // Host bytes from a sound state, as many as have room: a run of text, a run of what the command reader keeps, and the byte that makes
 // something, again and again.
-fn take_host(start: State, input: &[u8], line: &mut [u8], host: &mut [u8]) -> Called
+pub fn take_host(start: State, input: &[u8], line: &mut [u8], host: &mut [u8]) -> Called
     requires { ⌜ sound start ≡ true ⌝ }
     ensures { λ r. ⌜
         Calls (taking Names·Host start (now (input .entry)) (length (now (line .entry))) (length (now (host .entry)))) (now (line .entry)) (now (host .entry)) (now (line .exit)) (now (host .exit)) r
@@ -68,7 +68,7 @@ fn take_host(start: State, input: &[u8], line: &mut [u8], host: &mut [u8]) -> Ca
 }
 
 // Line codes from a sound state, as many as have room.
-fn take_line(start: State, codes: &[u8], host: &mut [u8], tu: &mut [u8]) -> Called
+pub fn take_line(start: State, codes: &[u8], host: &mut [u8], tu: &mut [u8]) -> Called
     requires { ⌜ sound start ≡ true ⌝ }
     ensures { λ r. ⌜
         Calls (taking Names·Line start (now (codes .entry)) (length (now (host .entry))) (length (now (tu .entry)))) (now (host .entry)) (now (tu .entry)) (now (host .exit)) (now (tu .exit)) r
@@ -96,7 +96,7 @@ fn take_line(start: State, codes: &[u8], host: &mut [u8], tu: &mut [u8]) -> Call
 }
 
 // TU codes from a sound state, as many as have room: a run of codes, and the one that may not fit, again and again.
-fn take_tu(start: State, codes: &[u8], line: &mut [u8]) -> Called
+pub fn take_tu(start: State, codes: &[u8], line: &mut [u8]) -> Called
     requires { ⌜ sound start ≡ true ⌝ }
     ensures { λ r. ⌜
         CallsOne (taking Names·Tu start (now (codes .entry)) (length (now (line .entry))) 0) (now (line .entry)) (now (line .exit)) r

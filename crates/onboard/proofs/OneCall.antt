@@ -12,7 +12,6 @@ use Rattle.step.specs.State.{sound}
 use Rattle.step.proofs.Stays.{sound-run}
 use Rattle.linebox.specs.Call.{Done, call, stopped}
 use Rattle.linebox.specs.Ends.{events}
-use Rattle.spelling.specs.declared.Loaded.{Loaded}
 use Rattle.spelling.specs.Spelling.{spells, spelt, stateOf}
 use Rattle.spelling.proofs.ReadBack.{sound-formed, read-back}
 use Rattle.board.specs.Calls.{spellsSound, after, asked, Boards, BoardsOne}
@@ -27,9 +26,7 @@ use Rattle.onboard.specs.OneCall.{Wire, PromisedBy, Promised, seen, OneC
 -- The spelling of a sound state is the spelling of just that state.
 
 pub spelt-back : (s : State) → sound s ≡ true → (spells (spelt s) ≡ true) × (stateOf (spelt s) ≡ s)
-spelt-back s h =
-    let e = read-back s (sound-formed s h) in
-    (ap (λ (x : Loaded). x .spelt) e, ap (λ (x : Loaded). x .state) e)
+spelt-back s h = read-back s (sound-formed s h)
 
 -- What the promises of the three calls have in common: all follows what the bytes ask for.
 record Follows (c : Wire) (d : Done) : Type 0 where

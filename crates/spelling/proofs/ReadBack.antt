@@ -11,11 +11,11 @@ use Rattle.settings.specs.Options.{endingCodes}
 use Rattle.settings.proofs.Held.{length-in, values-in, eight-codes}
 use Rattle.step.specs.State.{sound}
 use Rattle.step.proofs.Stays.{sound-parts}
-use Rattle.spelling.specs.Names.{Case, Letters, Figures, Verb, Write, Read, Other, Form, Empty, Digits, Ex, Stage, Text, Swallow, Held, Begun, Lettered, Typed, Fields, Discard, Known, Is, Column, At, Last, Shift, State, Loaded}
+use Rattle.spelling.specs.Names.{Case, Letters, Figures, Verb, Write, Read, Other, Form, Empty, Digits, Ex, Stage, Text, Swallow, Held, Begun, Lettered, Typed, Fields, Discard, Known, Is, Column, At, Last, Shift, State}
 use Rattle.spelling.specs.Names.known
 use Rattle.spelling.specs.Names.column
 use Rattle.spelling.specs.Names.last
-use Rattle.spelling.specs.Spelling.{bit, caseByte, knownByte, lastByte, verbByte, formByte, columnBytes, stageBytes, spelt, caseOf, knownOf, lastOf, verbOf, formOf, columnOf, stageOf, stateOf, spells, loaded, part}
+use Rattle.spelling.specs.Spelling.{bit, caseByte, knownByte, lastByte, verbByte, formByte, columnBytes, stageBytes, spelt, caseOf, knownOf, lastOf, verbOf, formOf, columnOf, stageOf, stateOf, spells, part}
 use Rattle.spelling.proofs.Parts.{two, four, laid}
 use Rattle.laws.proofs.Same.{same-self}
 use Rattle.spelling.proofs.Same.{its-spelling}
@@ -91,9 +91,9 @@ state-back s h =
     go y z f g q r u v w = rw (← f, ← g) (simp (q, r, u, v, w, known-back, last-back, case-back))
 
 -- a state of the box's form, spelt and read back
-pub read-back : (s : State) → Formed s → loaded (spelt s) ≡ record { spelt = true; state = s }
+pub read-back : (s : State) → Formed s → (spells (spelt s) ≡ true) × (stateOf (spelt s) ≡ s)
 unfolding spells
-read-back s f = rw (state-back s f, same-self (spelt s))
+read-back s f = (rw (state-back s f) (same-self (spelt s)), state-back s f)
 
 -- a sound state is of that form
 pub sound-formed : (s : State) → sound s ≡ true → Formed s
@@ -104,8 +104,8 @@ sound-formed s h =
 
 -- so no such state's spelling is refused
 pub none-refused : (b : List ℕ) (s : State) → Formed s → b ≡ spelt s → spells b ≡ true
-none-refused b s f e = rw e (ap (λ (x : Loaded). x .spelt) (read-back s f))
+none-refused b s f e = rw e (read-back s f .0)
 
 -- bytes that spell a state are the one spelling of it
-pub one-spelling : (b : List ℕ) (s : State) → loaded b ≡ record { spelt = true; state = s } → b ≡ spelt s
-one-spelling b s e = its-spelling b (ap (λ (x : Loaded). x .spelt) e) ∙ ap (λ (x : Loaded). spelt (x .state)) e
+pub one-spelling : (b : List ℕ) (s : State) → spells b ≡ true → stateOf b ≡ s → b ≡ spelt s
+one-spelling b s h e = its-spelling b h ∙ ap spelt e

@@ -21,4 +21,3 @@ pub use Rattle.sender.specs.declared.Last.the-variants.{Shift}
 pub use Rattle.sender.specs.declared.Last.the-variants as last
 pub use Rattle.sender.specs.declared.Sender.{Sender}
 pub use Rattle.step.specs.declared.State.{State}
-pub use Rattle.spelling.specs.declared.Loaded.{Loaded}

@@ -5,7 +5,7 @@ use mathlib.Core.List.{List, [], _∷_, _++_}
 use lib.Dec.{eqb}
 use lib.ListN.{getD, set, replicate}
 use Rattle.laws.specs.Same.{same}
-use Rattle.spelling.specs.Names.{Case, Letters, Figures, Verb, Write, Read, Other, Form, Empty, Digits, Ex, Stage, Text, Swallow, Held, Begun, Lettered, Typed, Fields, Discard, Reader, Settings, Connection, Known, Is, Column, At, Last, Shift, Sender, State, Loaded}
+use Rattle.spelling.specs.Names.{Case, Letters, Figures, Verb, Write, Read, Other, Form, Empty, Digits, Ex, Stage, Text, Swallow, Held, Begun, Lettered, Typed, Fields, Discard, Reader, Settings, Connection, Known, Is, Column, At, Last, Shift, Sender, State}
 use Rattle.spelling.specs.Names.known
 use Rattle.spelling.specs.Names.column
 use Rattle.spelling.specs.Names.last
@@ -162,7 +162,3 @@ spells b = same b (spelt (stateOf b))
 abbrev pub puts : List ℕ → ℕ → List ℕ → List ℕ
 puts b i [] = b
 puts b i (x ∷ xs) = puts (set b i x) (suc i) xs
-
--- what is known of bytes
-abbrev pub loaded : List ℕ → Loaded
-loaded b = record { spelt = spells b; state = stateOf b }

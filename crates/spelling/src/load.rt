@@ -2,8 +2,7 @@
 ghost use mathlib.Core.Path.{_≡_};
 ghost use lib.ListN.{length};
 ghost use Rattle.laws.specs.Same.{same};
-ghost use Rattle.spelling.specs.Spelling.{caseOf, columnOf, connectionOf, formOf, knownOf, lastOf, loaded, part, plainStage, readerOf, senderOf, settingsOf, stageOf, stateOf, verbOf};
-use crate::Loaded;
+ghost use Rattle.spelling.specs.Spelling.{caseOf, columnOf, connectionOf, formOf, knownOf, lastOf, part, plainStage, readerOf, senderOf, settingsOf, spelt, stageOf, stateOf, verbOf};
 use crate::save::save;
 use code::Case;
 use command::Form;
@@ -169,8 +168,8 @@ fn reader_of(b: &[u8; 128]) -> Reader
     }
 }
 
-// The whole state.
-fn state_of(b: &[u8; 128]) -> State
+// The state that the bytes read as; whether they spell it is told by `is_spelling`.
+pub fn state_of(b: &[u8; 128]) -> State
     ensures { λ r. ⌜ r ≡ stateOf (now (b .entry)) ⌝ }
 {
     State {
@@ -197,15 +196,11 @@ fn same(a: &[u8], b: &[u8]) -> bool
     alike
 }
 
-// The state that the bytes read as, and whether they spell it.
-pub fn load(b: &[u8; 128]) -> Loaded
-    ensures { λ r. ⌜ r ≡ loaded (now (b .entry)) ⌝ }
+// Whether the bytes are the spelling of a state.
+pub fn is_spelling(b: &[u8; 128], s: State) -> bool
+    ensures { λ r. ⌜ r ≡ same (now (b .entry)) (spelt s) ⌝ }
 {
-    let state = state_of(b);
     let mut again = [0u8; 128];
-    save(state, &mut again);
-    Loaded {
-        spelt: same(b, &again),
-        state,
-    }
+    save(s, &mut again);
+    same(b, &again)
 }

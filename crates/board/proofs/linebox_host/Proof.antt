@@ -1,23 +1,27 @@
--- `board::linebox_host` meets its contract.
+-- `board::linebox_host` meets its contract: bytes that spell no sound state are refused, and on any other the box takes what it is handed.
 -- Assumes nothing.
-use Rattle.board.specs.Names.{Host}
+use mathlib.Core.Path.{sym, _∙_}
 use borrow.Author.Tests.{not-true, not-false}
-use Rattle.board.proofs.Asked.{refused, boarded}
+use Rattle.board.specs.Names.{Host}
+use Rattle.board.proofs.Asked.{the-sound, refused, boarded}
 use borrow.Author.Needs.{needs}
 use Rattle.board.proofs.linebox_host.Statement.{statement}
 use Rattle.board.proofs.linebox_host.Tie as tie
 
-load-requires : tie.Need-load-requires
-load-requires c κs = search needs
+open-state-requires : tie.Need-open-state-requires
+open-state-requires c κs = search needs
 
 returns : tie.Need-returns
 returns c =
-    let a = c .before .before .before .before .before .before .before .before .args in
-    let none = rw (c .before .before .before .load .ensures) at (not-true (c .before .before .before .load .result .spelt) (c .before .if1 .taken)) in
-    refused Host (a .state .now) (a .input .now) _ _ (a .line .now) (a .host .now) none
+    let o = c .before .before .before in
+    let a = o .before .before .before .before .before .args in
+    refused Host (a .state .now) (a .input .now) _ _ (a .line .now) (a .host .now) (sym (o .open-state .ensures .0) ∙ not-true _ (c .before .if1 .taken))
 
-host-requires : tie.Need-host-requires
-host-requires c κs = search needs
+take-host-requires : tie.Need-take-host-requires
+take-host-requires c κs =
+    let x = c .before .before .before in
+    let e = x .before .before .open-state .ensures in
+    rw (e .1) (the-sound (x .before .before .before .before .before .before .before .args .state .now) (sym (e .0) ∙ not-false _ (x .if1 .left)))
 
 save-requires : tie.Need-save-requires
 save-requires c κs = search needs
@@ -38,18 +42,18 @@ returns-2 : tie.Need-returns-2
 returns-2 c =
     let h = c .before .before .before .before .before .before .before .before .before in
     let x = h .before .before .before .before in
-    let e = x .before .before .load .ensures in
+    let e = x .before .before .open-state .ensures in
     let a = x .before .before .before .before .before .before .before .args in
-    let some = rw e at (not-false (x .before .before .load .result .spelt) (x .if1 .left)) in
-    rw (c .before .before .save .ensures, c .before .counts .ensures, c .number-of .ensures) (boarded Host (a .state .now) (a .input .now) _ _ (a .line .now) (a .host .now) _ _ (h .host .result) some (rw e at (h .host .ensures)))
+    rw (c .before .before .save .ensures, c .before .counts .ensures, c .number-of .ensures)
+    (boarded Host (a .state .now) (a .input .now) _ _ (a .line .now) (a .host .now) _ _ (h .take-host .result) (sym (e .0) ∙ not-false _ (x .if1 .left)) (rw (e .1) at (h .take-host .ensures)))
 
 pub linebox-host-spec : {M : Type 1} → statement M
 linebox-host-spec =
     tie.close
     (tie.spec
-    load-requires
+    open-state-requires
     returns
-    host-requires
+    take-host-requires
     save-requires
     counts-requires
     number-of-requires

@@ -1,23 +1,27 @@
--- `board::linebox_line` meets its contract: bytes that spell no state are refused, and on any other the box answers.
+-- `board::linebox_line` meets its contract: bytes that spell no sound state are refused, and on any other the box takes what it is handed.
 -- Assumes nothing.
-use Rattle.board.specs.Names.{Line}
+use mathlib.Core.Path.{sym, _∙_}
 use borrow.Author.Tests.{not-true, not-false}
-use Rattle.board.proofs.Asked.{refused, boarded}
+use Rattle.board.specs.Names.{Line}
+use Rattle.board.proofs.Asked.{the-sound, refused, boarded}
 use borrow.Author.Needs.{needs}
 use Rattle.board.proofs.linebox_line.Statement.{statement}
 use Rattle.board.proofs.linebox_line.Tie as tie
 
-load-requires : tie.Need-load-requires
-load-requires c κs = search needs
+open-state-requires : tie.Need-open-state-requires
+open-state-requires c κs = search needs
 
 returns : tie.Need-returns
 returns c =
-    let a = c .before .before .before .before .before .before .before .before .args in
-    let none = rw (c .before .before .before .load .ensures) at (not-true (c .before .before .before .load .result .spelt) (c .before .if1 .taken)) in
-    refused Line (a .state .now) (a .codes .now) _ _ (a .host .now) (a .tu .now) none
+    let o = c .before .before .before in
+    let a = o .before .before .before .before .before .args in
+    refused Line (a .state .now) (a .codes .now) _ _ (a .host .now) (a .tu .now) (sym (o .open-state .ensures .0) ∙ not-true _ (c .before .if1 .taken))
 
-line-requires : tie.Need-line-requires
-line-requires c κs = search needs
+take-line-requires : tie.Need-take-line-requires
+take-line-requires c κs =
+    let x = c .before .before .before in
+    let e = x .before .before .open-state .ensures in
+    rw (e .1) (the-sound (x .before .before .before .before .before .before .before .args .state .now) (sym (e .0) ∙ not-false _ (x .if1 .left)))
 
 save-requires : tie.Need-save-requires
 save-requires c κs = search needs
@@ -38,18 +42,18 @@ returns-2 : tie.Need-returns-2
 returns-2 c =
     let h = c .before .before .before .before .before .before .before .before .before in
     let x = h .before .before .before .before in
-    let e = x .before .before .load .ensures in
+    let e = x .before .before .open-state .ensures in
     let a = x .before .before .before .before .before .before .before .args in
-    let some = rw e at (not-false (x .before .before .load .result .spelt) (x .if1 .left)) in
-    rw (c .before .before .save .ensures, c .before .counts .ensures, c .number-of .ensures) (boarded Line (a .state .now) (a .codes .now) _ _ (a .host .now) (a .tu .now) _ _ (h .line .result) some (rw e at (h .line .ensures)))
+    rw (c .before .before .save .ensures, c .before .counts .ensures, c .number-of .ensures)
+    (boarded Line (a .state .now) (a .codes .now) _ _ (a .host .now) (a .tu .now) _ _ (h .take-line .result) (sym (e .0) ∙ not-false _ (x .if1 .left)) (rw (e .1) at (h .take-line .ensures)))
 
 pub linebox-line-spec : {M : Type 1} → statement M
 linebox-line-spec =
     tie.close
     (tie.spec
-    load-requires
+    open-state-requires
     returns
-    line-requires
+    take-line-requires
     save-requires
     counts-requires
     number-of-requires

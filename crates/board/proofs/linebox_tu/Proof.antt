@@ -1,23 +1,27 @@
--- `board::linebox_tu` meets its contract: bytes that spell no state are refused, and on any other the box answers.
+-- `board::linebox_tu` meets its contract: bytes that spell no sound state are refused, and on any other the box takes what it is handed.
 -- Assumes nothing.
-use Rattle.board.specs.Names.{Tu}
+use mathlib.Core.Path.{sym, _∙_}
 use borrow.Author.Tests.{not-true, not-false}
-use Rattle.board.proofs.Asked.{refused-one, boarded-one}
+use Rattle.board.specs.Names.{Tu}
+use Rattle.board.proofs.Asked.{the-sound, refused-one, boarded-one}
 use borrow.Author.Needs.{needs}
 use Rattle.board.proofs.linebox_tu.Statement.{statement}
 use Rattle.board.proofs.linebox_tu.Tie as tie
 
-load-requires : tie.Need-load-requires
-load-requires c κs = search needs
+open-state-requires : tie.Need-open-state-requires
+open-state-requires c κs = search needs
 
 returns : tie.Need-returns
 returns c =
-    let a = c .before .before .before .before .before .before .before .args in
-    let none = rw (c .before .before .before .load .ensures) at (not-true (c .before .before .before .load .result .spelt) (c .before .if1 .taken)) in
-    refused-one Tu (a .state .now) (a .codes .now) _ 0 (a .line .now) none
+    let o = c .before .before .before in
+    let a = o .before .before .before .before .args in
+    refused-one Tu (a .state .now) (a .codes .now) _ 0 (a .line .now) (sym (o .open-state .ensures .0) ∙ not-true _ (c .before .if1 .taken))
 
-tu-requires : tie.Need-tu-requires
-tu-requires c κs = search needs
+take-tu-requires : tie.Need-take-tu-requires
+take-tu-requires c κs =
+    let x = c .before .before in
+    let e = x .before .before .open-state .ensures in
+    rw (e .1) (the-sound (x .before .before .before .before .before .before .args .state .now) (sym (e .0) ∙ not-false _ (x .if1 .left)))
 
 save-requires : tie.Need-save-requires
 save-requires c κs = search needs
@@ -32,18 +36,18 @@ returns-2 : tie.Need-returns-2
 returns-2 c =
     let h = c .before .before .before .before .before .before .before in
     let x = h .before .before .before in
-    let e = x .before .before .load .ensures in
+    let e = x .before .before .open-state .ensures in
     let a = x .before .before .before .before .before .before .args in
-    let some = rw e at (not-false (x .before .before .load .result .spelt) (x .if1 .left)) in
-    rw (c .before .before .save .ensures, c .number-of .ensures) (boarded-one Tu (a .state .now) (a .codes .now) _ 0 (a .line .now) _ (h .tu .result) some (rw e at (h .tu .ensures)))
+    rw (c .before .before .save .ensures, c .number-of .ensures)
+    (boarded-one Tu (a .state .now) (a .codes .now) _ 0 (a .line .now) _ (h .take-tu .result) (sym (e .0) ∙ not-false _ (x .if1 .left)) (rw (e .1) at (h .take-tu .ensures)))
 
 pub linebox-tu-spec : {M : Type 1} → statement M
 linebox-tu-spec =
     tie.close
     (tie.spec
-    load-requires
+    open-state-requires
     returns
-    tu-requires
+    take-tu-requires
     save-requires
     number-of-requires
     same-length
