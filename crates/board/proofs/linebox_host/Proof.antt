@@ -1,4 +1,4 @@
--- `board::linebox_host` meets its contract: bytes that spell no sound state are refused, and on any other the box takes what it is handed.
+-- `board::linebox_host` meets its contract: bytes that spell no sound state are refused, and from a sound one the box goes on.
 -- Assumes nothing.
 use mathlib.Core.Path.{sym, _∙_}
 use borrow.Author.Tests.{not-true, not-false}

@@ -25,8 +25,13 @@ put-values-requires c κs = search needs
 
 returns : tie.Need-returns
 returns c =
-    rw (c .put-values .ensures, c .before .before .put-stage .ensures, c .before .before .before .before .put-cases .ensures, c .before .before .before .before .before .before .put-sender .ensures, c .before .before .before .before .before .before .before .before .put-connection .ensures, c .before .before .before .before .before .before .before .before .before .before .put-settings .ensures)
-    (filled-spelt (c .before .before .before .before .before .before .before .before .before .before .before .before .before .before .before .before .before .before .args .s))
+    let g = c .before .before in
+    let k = g .before .before in
+    let x = k .before .before in
+    let l = x .before .before in
+    let o = l .before .before in
+    rw (c .put-values .ensures, g .put-stage .ensures, k .put-cases .ensures, x .put-sender .ensures, l .put-connection .ensures, o .put-settings .ensures)
+    (filled-spelt (o .before .before .before .before .before .before .before .before .args .s))
 
 pub save-spec : {M : Type 1} → statement M
 save-spec =
