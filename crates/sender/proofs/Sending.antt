@@ -13,7 +13,6 @@ use lib.ListN.{length, getD, drop, drop-of-length-le}
 use lib.Seq.{drop-cons}
 use borrow.Author.Tests.{le-leb}
 use Rattle.laws.specs.Written.{Filled}
-use Rattle.laws.proofs.Either.{either-way}
 use Rattle.laws.proofs.Filled.{filled-none, filled-on}
 use Rattle.settings.specs.Options.{endingCodes}
 use Rattle.sender.specs.Names.{Conversion, Nothing, Free, Cased, Settings, Sender, Asks, Text, Until, Never, Item}
@@ -68,17 +67,17 @@ module _ (o : Settings) (start : Sender) (first : Asks) (until : Until) (bytes o
       abbrev cs : List ℕ
       cs = items o s (wantedBy asks (getD bytes n 0))
 
-      pub no-room : leb most (length now - k) ≡ false → SendsRun (runOf o start first until bytes (length old)) old now (record { sender = s; asks = asks; taken = n; count = k })
-      no-room h = stops (rw (drop-cons bytes n 0 lt, ← e .places .same-length, h) (either-way (stopsAt until (getD bytes n 0)) (noRun s asks)))
+      pub no-room : stopsAt until (getD bytes n 0) ≡ false → leb most (length now - k) ≡ false → SendsRun (runOf o start first until bytes (length old)) old now (record { sender = s; asks = asks; taken = n; count = k })
+      no-room z h = stops (rw (drop-cons bytes n 0 lt, z, ← e .places .same-length, h))
 
       pub at-stop : stopsAt until (getD bytes n 0) ≡ true → SendsRun (runOf o start first until bytes (length old)) old now (record { sender = s; asks = asks; taken = n; count = k })
       at-stop z = stops (rw (drop-cons bytes n 0 lt, z))
 
       -- one byte more
-      pub sends-on : leb most (length now - k) ≡ true → stopsAt until (getD bytes n 0) ≡ false → (ys : List ℕ) (x : Item)
+      pub sends-on : stopsAt until (getD bytes n 0) ≡ false → leb most (length now - k) ≡ true → (ys : List ℕ) (x : Item)
           → PutsItems o s (wantedBy asks (getD bytes n 0)) (midOf k (length now - k) now) ys x
           → Sending o start first until bytes old (x .sender) (asksNext o asks (getD bytes n 0)) (n + 1) (putMid k (length now - k) now ys) (k + x .count)
-      sends-on h z ys x f =
+      sends-on z h ys x f =
           let b = getD bytes n 0 in
           let ws = wantedBy asks b in
           let a = length old - k in

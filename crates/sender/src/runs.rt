@@ -169,10 +169,10 @@ pub fn send(
     let mut count = 0;
     while taken < bytes.len() {
         let b = bytes[taken];
-        if !has_room(o, out.len() - count) {
+        if stops(until, b) {
             return sent(sender, asks, taken, count);
         }
-        if stops(until, b) {
+        if !has_room(o, out.len() - count) {
             return sent(sender, asks, taken, count);
         }
         let x = convert_as(asks, &table, b);

@@ -32,11 +32,8 @@ loop-holds c =
 shared-slice-read-b : tie.Need-shared-slice-read-b Inv-loop μ-loop
 shared-slice-read-b c = search needs
 
-sub-has-room : tie.Need-sub-has-room Inv-loop μ-loop
-sub-has-room c = search needs
-
-has-room-requires : tie.Need-has-room-requires Inv-loop μ-loop
-has-room-requires c κs = search needs
+stops-requires : tie.Need-stops-requires Inv-loop μ-loop
+stops-requires c κs = search needs
 
 sent-requires : tie.Need-sent-requires Inv-loop μ-loop
 sent-requires c κs = search needs
@@ -53,10 +50,13 @@ returns c =
     let l = m .loop in
     let a = m .before .before .before .before .args in
     rw (c .sent .ensures)
-    (no-room (a .o) (a .start) (a .first) (a .until) (now (a .bytes)) (now (a .out)) (l .sender) (l .asks) (l .taken) (l .out) (l .count) (l .inv) (t .loop-test .taken) (rw (h .has-room .ensures .0) at (not-true (h .has-room .result) (g .if1 .taken))))
+    (at-stop (a .o) (a .start) (a .first) (a .until) (now (a .bytes)) (now (a .out)) (l .sender) (l .asks) (l .taken) (l .out) (l .count) (l .inv) (t .loop-test .taken) (rw (h .stops .ensures) at (g .if1 .taken)))
 
-stops-requires : tie.Need-stops-requires Inv-loop μ-loop
-stops-requires c κs = search needs
+sub-has-room : tie.Need-sub-has-room Inv-loop μ-loop
+sub-has-room c = search needs
+
+has-room-requires : tie.Need-has-room-requires Inv-loop μ-loop
+has-room-requires c κs = search needs
 
 sent-requires-2 : tie.Need-sent-requires-2 Inv-loop μ-loop
 sent-requires-2 c κs = search needs
@@ -67,12 +67,15 @@ same-length-2 c = search needs
 returns-2 : tie.Need-returns-2 Inv-loop μ-loop
 returns-2 c =
     let f = c .before in
-    let t = f .before .before .before .before .before in
+    let r = f .before in
+    let g = r .before in
+    let h = g .before in
+    let t = h .before .before in
     let m = t .before in
     let l = m .loop in
     let a = m .before .before .before .before .args in
     rw (c .sent2 .ensures)
-    (at-stop (a .o) (a .start) (a .first) (a .until) (now (a .bytes)) (now (a .out)) (l .sender) (l .asks) (l .taken) (l .out) (l .count) (l .inv) (t .loop-test .taken) (rw (f .before .stops .ensures) at (f .if2 .taken)))
+    (no-room (a .o) (a .start) (a .first) (a .until) (now (a .bytes)) (now (a .out)) (l .sender) (l .asks) (l .taken) (l .out) (l .count) (l .inv) (t .loop-test .taken) (rw (h .stops .ensures) at (g .if1 .left)) (rw (r .has-room .ensures .0) at (not-true (r .has-room .result) (f .if2 .taken))))
 
 slice-aggregate-convert-as : tie.Need-slice-aggregate-convert-as Inv-loop μ-loop
 slice-aggregate-convert-as c = search needs
@@ -92,14 +95,14 @@ part-put-asked-end c = search needs
 put-asked-requires : tie.Need-put-asked-requires Inv-loop μ-loop
 put-asked-requires c κs =
     let v = c .before in
-    let g = v .before .before .before .before in
-    let h = g .before in
-    let m = h .before .before .before in
+    let f = v .before .before in
+    let r = f .before in
+    let m = r .before .before .before .before .before in
     let l = m .loop in
     let a = m .before .before .before .before .args in
     let x = converted (l .asks) (getD (now (a .bytes)) (l .taken) 0) in
-    let room : most ≤ length (l .out) - l .count = leb-true _ _ (rw (h .has-room .ensures .0) at (not-false (h .has-room .result) (g .if1 .left))) in
-    rw (free-length (l .out) (l .count), v .convert-as .ensures) (omega (arith, room, byte-most (a .o) (h .has-room .ensures .1) (l .sender) x))
+    let room : most ≤ length (l .out) - l .count = leb-true _ _ (rw (r .has-room .ensures .0) at (not-false (r .has-room .result) (f .if2 .left))) in
+    rw (free-length (l .out) (l .count), v .convert-as .ensures) (omega (arith, room, byte-most (a .o) (r .has-room .ensures .1) (l .sender) x))
 
 next-asks-requires : tie.Need-next-asks-requires Inv-loop μ-loop
 next-asks-requires c κs = search needs
@@ -131,7 +134,7 @@ loop-again c =
     let l = m .loop in
     let a = m .before .before .before .before .args in
     rw (c .before .before .next-asks .ensures)
-    (sends-on (a .o) (a .start) (a .first) (a .until) (now (a .bytes)) (now (a .out)) (l .sender) (l .asks) (l .taken) (l .out) (l .count) (l .inv) (t .loop-test .taken) (rw (h .has-room .ensures .0) at (not-false (h .has-room .result) (g .if1 .left))) (rw (f .before .stops .ensures) at (f .if2 .left)) _ (p .put-asked .result) (rw (v .convert-as .ensures) at (p .put-asked .ensures)))
+    (sends-on (a .o) (a .start) (a .first) (a .until) (now (a .bytes)) (now (a .out)) (l .sender) (l .asks) (l .taken) (l .out) (l .count) (l .inv) (t .loop-test .taken) (rw (h .stops .ensures) at (g .if1 .left)) (rw (f .before .has-room .ensures .0) at (not-false (f .before .has-room .result) (f .if2 .left))) _ (p .put-asked .result) (rw (v .convert-as .ensures) at (p .put-asked .ensures)))
 
 sent-requires-3 : tie.Need-sent-requires-3 Inv-loop μ-loop
 sent-requires-3 c κs = search needs
@@ -155,12 +158,12 @@ send-spec =
     table-requires
     loop-holds
     shared-slice-read-b
-    sub-has-room
-    has-room-requires
+    stops-requires
     sent-requires
     same-length
     returns
-    stops-requires
+    sub-has-room
+    has-room-requires
     sent-requires-2
     same-length-2
     returns-2
