@@ -105,11 +105,10 @@ fn fault_in(taken: Takes, v: Verb, r: Row, count: u8, fields: [u8; 11]) -> Fault
 pub fn fault_of(v: Verb, r: Row, count: u8, fields: [u8; 11]) -> Fault
     ensures { λ q. ⌜ q ≡ faultOf v r count fields ⌝ }
 {
-    match v {
-        Verb::Write => fault_in(taken_by(v, r), v, r, count, fields),
-        Verb::Read => fault_in(taken_by(v, r), v, r, count, fields),
-        Verb::Other => Fault::Type,
+    if let Verb::Other = v {
+        return Fault::Type;
     }
+    fault_in(taken_by(v, r), v, r, count, fields)
 }
 
 // The number of an error.

@@ -1,11 +1,27 @@
--- `settings::faults::fault_of` meets its contract: the type comes first.
+-- `settings::faults::fault_of` meets its contract: the type comes first, and any type that there is goes the same way.
 -- Assumes nothing.
+use Prim.Native.Nat.{ℕ}
+use mathlib.Core.Path.{_≡_, refl}
+use mathlib.Core.List.{List, [], _∷_}
+use types.Run.{miss}
 use borrow.Author.Needs.{needs}
+use Rattle.settings.specs.Names.{Verb, Write, Read, Other, Row}
+use Rattle.settings.specs.Table.{takenBy}
+use Rattle.settings.specs.Command.{faultIn, faultOf}
 use Rattle.settings.proofs.faults.fault_of.Statement.{statement}
 use Rattle.settings.proofs.faults.fault_of.Tie as tie
 
+-- a command whose type is a write or a read
+typed : (v : Verb) (r : Row) (count : ℕ) (fields : List ℕ) → (v ≡ Other → ⊥) → faultIn (takenBy v r) v r count fields ≡ faultOf v r count fields
+typed Write r count fields h = refl
+typed Read r count fields h = refl
+typed Other r count fields h = absurd (h refl)
+
 enum-told : tie.Need-enum-told
 enum-told c = search needs
+
+returns : tie.Need-returns
+returns c = search needs
 
 taken-by-requires : tie.Need-taken-by-requires
 taken-by-requires c κs = search needs
@@ -13,38 +29,12 @@ taken-by-requires c κs = search needs
 fault-in-requires : tie.Need-fault-in-requires
 fault-in-requires c κs = search needs
 
-enum-told-2 : tie.Need-enum-told-2
-enum-told-2 c = search needs
-
-taken-by-requires-2 : tie.Need-taken-by-requires-2
-taken-by-requires-2 c κs = search needs
-
-fault-in-requires-2 : tie.Need-fault-in-requires-2
-fault-in-requires-2 c κs = search needs
-
-enum-told-3 : tie.Need-enum-told-3
-enum-told-3 c = search needs
-
-returns : tie.Need-returns
-returns c = simp (c .before .before .enum-told .given .1, c .fault-in .ensures, c .before .taken-by .ensures)
-
 returns-2 : tie.Need-returns-2
-returns-2 c = simp (c .before .before .enum-told2 .given .1, c .fault-in2 .ensures, c .before .taken-by2 .ensures)
-
-returns-3 : tie.Need-returns-3
-returns-3 c = search needs
+returns-2 c =
+    let m = c .before .before in
+    let a = m .before .args in
+    rw (c .fault-in .ensures, c .before .taken-by .ensures) (typed (a .v) (a .r) (a .count) (a .fields) (λ z. miss (0 ∷ 1 ∷ []) 2 tt (rw z at (m .match .keys2))))
 
 pub fault-of-spec : {M : Type 1} → statement M
 fault-of-spec =
-    tie.close
-    (tie.spec
-    enum-told
-    taken-by-requires
-    fault-in-requires
-    enum-told-2
-    taken-by-requires-2
-    fault-in-requires-2
-    enum-told-3
-    returns
-    returns-2
-    returns-3)
+    tie.close (tie.spec enum-told returns taken-by-requires fault-in-requires returns-2)
