@@ -1,13 +1,14 @@
 // One code with its shifts, and an ending of several, at the front of a buffer that has room for them.
 ghost use mathlib.Core.Path.{_≡_};
 ghost use mathlib.Core.Bool.{cond};
-ghost use mathlib.Core.List.{[], _∷_};
+ghost use mathlib.Core.List.{[], _∷_, _++_};
 ghost use Prim.Native.Nat.{_≤_};
 ghost use lib.Dec.{eqb};
 ghost use lib.ListN.{length};
 ghost use Rattle.laws.specs.Written.{Filled};
+ghost use Rattle.code.specs.Kinds.{shifts};
 ghost use Rattle.sender.specs.Names.{Letters as Names·Letters};
-ghost use Rattle.sender.specs.Code.{sameCase, isCase, shiftFor, unshift, follow, sendKind};
+ghost use Rattle.sender.specs.Code.{sameCase, isCase, shiftTo, unshift, follow, sendKind};
 ghost use Rattle.sender.specs.Ending.{onRecord, endingOf, untilZero};
 ghost use Rattle.sender.specs.Run.{Notes};
 use crate::Known;
@@ -44,19 +45,6 @@ fn is_case(n: Known, want: Case) -> bool
     }
 }
 
-// Whether a shift goes before a code of this kind.
-fn is_led(n: Known, want: Case, k: Kind) -> bool
-    ensures { λ r. ⌜ shiftFor n want k ≡ cond r (want ∷ []) [] ⌝ }
-{
-    match k {
-        Kind::Still => false,
-        Kind::Space => false,
-        Kind::Return => false,
-        Kind::Shift(_) => false,
-        Kind::Char(_) => !is_case(n, want),
-    }
-}
-
 // Whether LTRS follows a space or a return, by its option.
 fn is_unshifted(on: bool, n: Known) -> bool
     ensures { λ r. ⌜ unshift on n ≡ cond r (Names·Letters ∷ []) [] ⌝ }
@@ -81,22 +69,42 @@ fn is_followed(o: Settings, n: Known, k: Kind) -> bool
     }
 }
 
-// One code in its wanted case: the shift that it needs, the code, the LTRS that follows. How many they are.
-pub fn put_code(o: Settings, n: Known, want: Case, c: u8, k: Kind, out: &mut [u8]) -> usize
-    requires { ⌜ length (sendKind o n want k c) ≤ length (now out) ⌝ }
-    ensures { λ r. ⌜ Filled (now (out .entry)) (now (out .exit)) (sendKind o n want k c) r ⌝ }
+// A code that depends on case: the shift that it needs, and the code. How many they are.
+pub fn put_led(n: Known, want: Case, c: u8, out: &mut [u8]) -> usize
+    requires { ⌜ length (shifts (shiftTo n want) ++ c ∷ []) ≤ length (now out) ⌝ }
+    ensures { λ r. ⌜ Filled (now (out .entry)) (now (out .exit)) (shifts (shiftTo n want) ++ c ∷ []) r ⌝ }
 {
-    if is_led(n, want, k) {
-        out[0] = code::shift_to(want);
-        out[1] = c;
-        return 2;
+    if is_case(n, want) {
+        out[0] = c;
+        return 1;
     }
+    out[0] = code::shift_to(want);
+    out[1] = c;
+    2
+}
+
+// Any other code, and the LTRS that follows. How many they are.
+pub fn put_followed(o: Settings, n: Known, c: u8, k: Kind, out: &mut [u8]) -> usize
+    requires { ⌜ length (c ∷ shifts (follow o n k)) ≤ length (now out) ⌝ }
+    ensures { λ r. ⌜ Filled (now (out .entry)) (now (out .exit)) (c ∷ shifts (follow o n k)) r ⌝ }
+{
     out[0] = c;
     if is_followed(o, n, k) {
         out[1] = code::shift_to(Case::Letters);
         return 2;
     }
     1
+}
+
+// One code in its wanted case: the shift that it needs, the code, the LTRS that follows. How many they are.
+fn put_code(o: Settings, n: Known, want: Case, c: u8, k: Kind, out: &mut [u8]) -> usize
+    requires { ⌜ length (sendKind o n want k c) ≤ length (now out) ⌝ }
+    ensures { λ r. ⌜ Filled (now (out .entry)) (now (out .exit)) (sendKind o n want k c) r ⌝ }
+{
+    if let Kind::Char(_) = k {
+        return put_led(n, want, c, out);
+    }
+    put_followed(o, n, c, k, out)
 }
 
 // The case that a code of an ending is sent in: the one on record, letters while it is unknown.

@@ -1,10 +1,11 @@
 // Items: the ending that is due, the code with its shifts, and what option 72 drops, at the front of a buffer that has room for them.
 ghost use mathlib.Core.Path.{_≡_};
-ghost use mathlib.Core.Bool.{_&&_};
+ghost use mathlib.Core.Bool.{false, _&&_};
 ghost use mathlib.Core.List.{[], _∷_};
 ghost use Prim.Native.Nat.{_≤_};
 ghost use lib.ListN.{length};
-ghost use Rattle.code.specs.Kinds.{kindOf};
+ghost use Rattle.code.specs.Kinds.{kindOf, dependent};
+ghost use Rattle.sender.specs.Names.{Char as Names·Char};
 ghost use Rattle.settings.specs.Options.{filter};
 ghost use Rattle.sender.specs.Ending.{due, ending};
 ghost use Rattle.sender.specs.Item.{character, lastOf, repeats, items};
@@ -16,8 +17,9 @@ use crate::Noted;
 use crate::Record;
 use crate::Sender;
 use crate::Wanted;
-use crate::codes::put_code;
 use crate::codes::put_ending;
+use crate::codes::put_followed;
+use crate::codes::put_led;
 use crate::codes::same_case;
 use crate::records::after;
 use code::Kind;
@@ -40,8 +42,22 @@ fn is_ended(o: Settings, col: Column, moves: bool) -> bool
     moves & is_due(o, col)
 }
 
-// The ending, where it goes before this code.
-fn end_line(o: Settings, held: Record, moves: bool, out: &mut [u8]) -> Noted
+// The ending, where it goes before a code that depends on case.
+fn end_before(o: Settings, held: Record, strikes: bool, out: &mut [u8]) -> Noted
+    requires { ⌜ length (ending o held (strikes && due o (held .column))) ≤ length (now out) ⌝ }
+    ensures { λ r. ⌜ Notes o held (ending o held (strikes && due o (held .column))) (now (out .entry)) (now (out .exit)) r ⌝ }
+{
+    let col = held.column;
+    let string = o.ending_codes();
+    if is_ended(o, col, strikes) {
+        return put_ending(o, held, string, out);
+    }
+    Noted { held, count: 0 }
+}
+
+// The ending, where it goes before any other code: a space. What is asked for in two places is not compiled into either, so the loop over an
+// ending stays out of the loop over bytes.
+fn end_before_free(o: Settings, held: Record, moves: bool, out: &mut [u8]) -> Noted
     requires { ⌜ length (ending o held (moves && due o (held .column))) ≤ length (now out) ⌝ }
     ensures { λ r. ⌜ Notes o held (ending o held (moves && due o (held .column))) (now (out .entry)) (now (out .exit)) r ⌝ }
 {
@@ -53,22 +69,51 @@ fn end_line(o: Settings, held: Record, moves: bool, out: &mut [u8]) -> Noted
     Noted { held, count: 0 }
 }
 
+// A code that depends on case: the ending that is due, then the shift that it needs and the code.
+fn put_dependent(o: Settings, held: Record, w: Wanted, bell: bool, out: &mut [u8]) -> Noted
+    requires { ⌜ (Names·Char bell ≡ kindOf (w .code)) × (length (character o held w) ≤ length (now out)) ⌝ }
+    ensures { λ r. ⌜ Notes o held (character o held w) (now (out .entry)) (now (out .exit)) r ⌝ }
+{
+    let case = w.case;
+    let c = w.code;
+    let ended = end_before(o, held, code::strikes(bell, case), out);
+    let then = ended.held;
+    let n = ended.count;
+    let known = then.case;
+    let m = put_led(known, case, c, &mut out[n..]);
+    Noted {
+        held: after(o, then, case, Kind::Char(bell)),
+        count: n + m,
+    }
+}
+
+// Any other code: the ending that is due, then the code and the LTRS that follows.
+fn put_free(o: Settings, held: Record, w: Wanted, k: Kind, out: &mut [u8]) -> Noted
+    requires { ⌜ (k ≡ kindOf (w .code)) × (dependent k ≡ false) × (length (character o held w) ≤ length (now out)) ⌝ }
+    ensures { λ r. ⌜ Notes o held (character o held w) (now (out .entry)) (now (out .exit)) r ⌝ }
+{
+    let case = w.case;
+    let c = w.code;
+    let ended = end_before_free(o, held, code::moves(case, k), out);
+    let then = ended.held;
+    let n = ended.count;
+    let known = then.case;
+    let m = put_followed(o, known, c, k, &mut out[n..]);
+    Noted {
+        held: after(o, then, case, k),
+        count: n + m,
+    }
+}
+
 // A character asked for: the ending that is due, then the code with its shifts.
 fn put_character(o: Settings, held: Record, w: Wanted, k: Kind, out: &mut [u8]) -> Noted
     requires { ⌜ (k ≡ kindOf (w .code)) × (length (character o held w) ≤ length (now out)) ⌝ }
     ensures { λ r. ⌜ Notes o held (character o held w) (now (out .entry)) (now (out .exit)) r ⌝ }
 {
-    let case = w.case;
-    let c = w.code;
-    let ended = end_line(o, held, code::moves(case, k), out);
-    let then = ended.held;
-    let n = ended.count;
-    let known = then.case;
-    let m = put_code(o, known, case, c, k, &mut out[n..]);
-    Noted {
-        held: after(o, then, case, k),
-        count: n + m,
+    if let Kind::Char(bell) = k {
+        return put_dependent(o, held, w, bell, out);
     }
+    put_free(o, held, w, k, out)
 }
 
 // The item that a code of this kind is, as option 72 asks of it.

@@ -1,12 +1,12 @@
--- `sender::items::end_line` meets its contract: the ending goes out where one goes before the code.
+-- `sender::items::end_before` meets its contract: the ending goes out where one goes before the code.
 -- Assumes nothing.
 use mathlib.Core.Bool.{_&&_}
 use denote.Ref.{now}
 use Rattle.sender.specs.Ending.{due}
 use Rattle.sender.proofs.OneItem.{no-ending}
 use borrow.Author.Needs.{needs}
-use Rattle.sender.proofs.items.end_line.Statement.{statement}
-use Rattle.sender.proofs.items.end_line.Tie as tie
+use Rattle.sender.proofs.items.end_before.Statement.{statement}
+use Rattle.sender.proofs.items.end_before.Tie as tie
 
 ending-codes-requires : tie.Need-ending-codes-requires
 ending-codes-requires c κs = search needs
@@ -31,8 +31,8 @@ returns c =
 returns-2 : tie.Need-returns-2
 returns-2 c =
     let a = c .before .before .before .before .args in
-    no-ending (a .o) (a .held) (now (a .out)) (a .moves && due (a .o) (a .held .column)) (rw (c .before .is-ended .ensures) at (c .if1 .left))
+    no-ending (a .o) (a .held) (now (a .out)) (a .strikes && due (a .o) (a .held .column)) (rw (c .before .is-ended .ensures) at (c .if1 .left))
 
-pub end-line-spec : {M : Type 1} → statement M
-end-line-spec =
+pub end-before-spec : {M : Type 1} → statement M
+end-before-spec =
     tie.close (tie.spec ending-codes-requires is-ended-requires put-ending-requires same-length returns returns-2)
