@@ -97,11 +97,11 @@ fn put_free(o: Settings, held: Record, w: Wanted, k: Kind, out: &mut [u8]) -> No
     let ended = end_before_free(o, held, code::moves(case, k), out);
     let then = ended.held;
     let n = ended.count;
-    let known = then.case;
-    let m = put_followed(o, known, c, k, &mut out[n..]);
+    let noted = then.case;
+    let codes = put_followed(o, noted, c, k, &mut out[n..]);
     Noted {
         held: after(o, then, case, k),
-        count: n + m,
+        count: n + codes,
     }
 }
 
