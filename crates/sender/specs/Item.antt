@@ -73,14 +73,20 @@ abbrev pub wantedText : List ℕ → List Wanted
 wantedText [] = []
 wantedText (b ∷ bs) = wantedBy Text b ++ wantedText bs
 
+-- Reading cases: mode 1's of line codes, and mode 4's incoming one.
+
 abbrev pub unshiftedBy : Bool → Case → Case
 unshiftedBy true case = Letters
 unshiftedBy false case = case
 
--- mode 4's incoming reading case: set by 27 and 31, back to letters after space (70 on) or CR (71 on)
-abbrev pub incoming : Settings → Case → Kind → Case
-incoming o case Still = case
-incoming o case Space = unshiftedBy (onspace o) case
-incoming o case Return = unshiftedBy (onreturn o) case
-incoming o case (Shift to) = to
-incoming o case (Char bell) = case
+-- what 27 or 31 says after a shift, letters after a space or a CR that unshifts, and otherwise as it was
+abbrev pub caseAfter : Bool → Bool → Case → Kind → Case
+caseAfter onspace onreturn case Still = case
+caseAfter onspace onreturn case Space = unshiftedBy onspace case
+caseAfter onspace onreturn case Return = unshiftedBy onreturn case
+caseAfter onspace onreturn case (Shift to) = to
+caseAfter onspace onreturn case (Char bell) = case
+
+-- a space unshifts with 70 on, a CR with 71 on
+abbrev pub readCase : Settings → Case → Kind → Case
+readCase o case k = caseAfter (onspace o) (onreturn o) case k

@@ -9,7 +9,7 @@ use Rattle.laws.specs.Written.{fronted, Filled}
 use Rattle.code.specs.Kinds.{kindOf}
 use Rattle.sender.specs.Names.{Case, Letters, Conversion, Nothing, Free, Cased, Settings, Record, Wanted, Sender, Asks, Text, Codes, Until, Never, Byte, Above, Noted, Item, Sent}
 use Rattle.sender.specs.Record.{notes}
-use Rattle.sender.specs.Item.{items, afterItems, wanted, wantedBy, incoming}
+use Rattle.sender.specs.Item.{items, afterItems, wanted, wantedBy, readCase}
 
 -- codes at the front of a buffer, each noted in the record
 pub record Notes (o : Settings) (start : Record) (codes old now : List ℕ) (r : Noted) : Type 0 where
@@ -36,7 +36,7 @@ wantedAs (Cased case c) = wanted case c
 -- how the next byte asks
 abbrev pub asksNext : Settings → Asks → ℕ → Asks
 asksNext o Text b = Text
-asksNext o (Codes case) c = Codes (incoming o case (kindOf c))
+asksNext o (Codes case) c = Codes (readCase o case (kindOf c))
 
 -- the incoming reading case that the next code asks in
 abbrev pub caseAsked : Asks → Case

@@ -5,7 +5,7 @@ ghost use lib.Dec.{leb};
 ghost use lib.ListN.{length};
 ghost use Rattle.convert.specs.Entry.{Tabled};
 ghost use Rattle.settings.specs.Options.{endingCodes};
-ghost use Rattle.sender.specs.Item.{items, wantedOf, converted, unshiftedBy, incoming};
+ghost use Rattle.sender.specs.Item.{items, wantedOf, converted, unshiftedBy, caseAfter};
 ghost use Rattle.sender.specs.Run.{isNone, wantedAs, asksNext, caseAsked, stopsAt, PutsItems, most, runOf, SendsRun};
 use crate::Asks;
 use crate::Item;
@@ -26,14 +26,14 @@ fn unshifted_by(on: bool, case: Case) -> Case
     if on { Case::Letters } else { case }
 }
 
-// Mode 4's incoming reading case after a code of this kind.
-fn incoming(o: Settings, case: Case, k: Kind) -> Case
-    ensures { λ r. ⌜ r ≡ incoming o case k ⌝ }
+// The case that the next code is read in, as a space and a return unshift or not.
+pub fn case_after(onspace: bool, onreturn: bool, case: Case, k: Kind) -> Case
+    ensures { λ r. ⌜ r ≡ caseAfter onspace onreturn case k ⌝ }
 {
     match k {
         Kind::Still => case,
-        Kind::Space => unshifted_by(o.onspace(), case),
-        Kind::Return => unshifted_by(o.onreturn(), case),
+        Kind::Space => unshifted_by(onspace, case),
+        Kind::Return => unshifted_by(onreturn, case),
         Kind::Shift(to) => to,
         Kind::Char(_) => case,
     }
@@ -45,7 +45,9 @@ fn next_asks(o: Settings, asks: Asks, b: u8) -> Asks
 {
     match asks {
         Asks::Text => Asks::Text,
-        Asks::Codes(case) => Asks::Codes(incoming(o, case, code::kind_of(b))),
+        Asks::Codes(case) => {
+            Asks::Codes(case_after(o.onspace(), o.onreturn(), case, code::kind_of(b)))
+        }
     }
 }
 

@@ -9,7 +9,7 @@ use Rattle.message.specs.Message.{framed}
 use Rattle.command.specs.Read.{read, textOf}
 use Rattle.settings.specs.Command.{commanded}
 use Rattle.settings.specs.Options.{reports}
-use Rattle.sender.specs.Item.{items, afterItems, wanted, wantedText, incoming}
+use Rattle.sender.specs.Item.{items, afterItems, wanted, wantedText, readCase}
 use Rattle.step.specs.Names.{Case, Kind, Still, Space, Return, Shift, Char, Reader, Out, Nothing, One, Two, Finished, Route, Dropped, ToPrinter, ToHost, ToTu, Outcome, Wanted, State, Stream, Host, Line, Tu}
 use Rattle.step.specs.Route.{route}
 use Rattle.step.specs.State.{withReader, withSender, withReading, withIncoming, withStored}
@@ -68,19 +68,11 @@ isRead reports (Char bell) = true
 abbrev pub readAs : Bool → Case → Kind → ℕ → List ℕ
 readAs reports case k c = cond (isRead reports k) (rowAt case c ∷ []) []
 
--- the reading case follows 27 and 31, and is not changed by space or CR
-abbrev pub readCase : Case → Kind → Case
-readCase case Still = case
-readCase case Space = case
-readCase case Return = case
-readCase case (Shift to) = to
-readCase case (Char bell) = case
-
--- line codes on their route: read for the host, or to the TU unchanged
+-- line codes on their route: read for the host in the reading case before it, or to the TU unchanged
 abbrev pub lined : Route → State → ℕ → Step
 lined Dropped s c = quiet s
 lined ToPrinter s c = quiet s
-lined ToHost s c = record { state = withReading s (readCase (s .reading) (kindOf c)); line = []; host = readAs (reports (s .settings)) (s .reading) (kindOf c) c; tu = [] }
+lined ToHost s c = record { state = withReading s (readCase (s .settings) (s .reading) (kindOf c)); line = []; host = readAs (reports (s .settings)) (s .reading) (kindOf c) c; tu = [] }
 lined ToTu s c = record { state = s; line = []; host = []; tu = c ∷ [] }
 
 abbrev pub lineStep : State → ℕ → Step
@@ -90,7 +82,7 @@ lineStep s c = lined (route (s .connection) Line) s c
 
 -- an item, the wanted case being the incoming reading case
 abbrev pub carried : State → ℕ → Step
-carried s c = sends (withIncoming s (incoming (s .settings) (s .incoming) (kindOf c))) (wanted (s .incoming) c ∷ [])
+carried s c = sends (withIncoming s (readCase (s .settings) (s .incoming) (kindOf c))) (wanted (s .incoming) c ∷ [])
 
 -- TU codes on their route
 abbrev pub tued : Route → State → ℕ → Step

@@ -2,9 +2,10 @@
 ghost use mathlib.Core.Path.{_≡_};
 ghost use Rattle.code.specs.Kinds.{kindOf};
 ghost use Rattle.settings.specs.Options.{reports};
+ghost use Rattle.sender.specs.Item.{readCase};
 ghost use Rattle.step.specs.Names.{Line as Names·Line};
 ghost use Rattle.step.specs.State.{withReading};
-ghost use Rattle.step.specs.Step.{isRead, readAs, readCase, lineStep};
+ghost use Rattle.step.specs.Step.{isRead, readAs, lineStep};
 ghost use Rattle.step.specs.Byte.{Puts, Offers};
 use crate::Route;
 use crate::State;
@@ -19,19 +20,7 @@ use crate::routes::route;
 use crate::states::with_reading;
 use code::Case;
 use code::Kind;
-
-// The reading case after a code of this kind.
-fn read_case(case: Case, k: Kind) -> Case
-    ensures { λ r. ⌜ r ≡ readCase case k ⌝ }
-{
-    match k {
-        Kind::Still => case,
-        Kind::Space => case,
-        Kind::Return => case,
-        Kind::Shift(to) => to,
-        Kind::Char(_) => case,
-    }
-}
+use sender::runs::case_after;
 
 // Whether a code of this kind gives the host a byte.
 fn is_read(reports: bool, k: Kind) -> bool
@@ -49,13 +38,13 @@ fn is_read(reports: bool, k: Kind) -> bool
 // A line code read for the host.
 fn put_read(s: State, c: u8, out: &mut [u8]) -> Took
     ensures { λ r. ⌜
-        Puts (withReading s (readCase (s .reading) (kindOf c))) (readAs (reports (s .settings)) (s .reading) (kindOf c) c) (now (out .entry)) (now (out .exit)) r
+        Puts (withReading s (readCase (s .settings) (s .reading) (kindOf c))) (readAs (reports (s .settings)) (s .reading) (kindOf c) c) (now (out .entry)) (now (out .exit)) r
         ⌝ }
 {
     let settings = s.settings;
     let case = s.reading;
     let k = code::kind_of(c);
-    let next = with_reading(s, read_case(case, k));
+    let next = with_reading(s, case_after(settings.onspace(), settings.onreturn(), case, k));
     if is_read(settings.reports(), k) {
         put_one(next, code::row_at(case, c), out)
     } else {
