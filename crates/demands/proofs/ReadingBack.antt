@@ -1,105 +1,119 @@
--- Reading back: a reader that follows 27 and 31 alone is a printer that never unshifts by itself, so the record agrees with it
--- and what was sent reads as it was asked for.
+-- Reading back: the reader of a code is a printer whose own habits are the options in force when it was sent, so the record agrees
+-- with it and what was sent reads as it was asked for.
 -- Assumes nothing.
-use Prim.Native.Nat.{ℕ, _+_}
+use Prim.Native.Nat.{ℕ}
 use lib.Dec.{eqb}
 use mathlib.Core.Path.{_≡_, refl, sym, ap, _∙_}
 use mathlib.Core.Bool.{Bool, true, false, cond, false≢true}
 use mathlib.Core.List.{List, [], _∷_, _++_, append-assoc}
-use lib.ListN.{length, take, drop}
+use lib.ListN.{length, take, drop, replicate}
 use lib.Seq.{take-at, drop-at}
-use Rattle.code.specs.Rows.{rowAt}
-use Rattle.code.specs.Kinds.{kindOf, strikes}
+use Rattle.code.specs.Kinds.{kindOf}
 use Rattle.command.specs.Read.{read, textOf}
 use Rattle.command.specs.Reads.{made}
-use Rattle.settings.specs.Options.{reports}
-use Rattle.printer.specs.Printer.{advanced, hearKind, hear, hears, from, markAs, printsAs, printsAll}
-use Rattle.sender.specs.Item.{items, afterItems, fresh}
+use Rattle.settings.specs.Options.{onspace, onreturn, reports}
+use Rattle.printer.specs.Printer.{unshifted, hearCase, hear, hears, from, markAs, printsAs, prints, printsAll}
+use Rattle.sender.specs.Item.{items, afterItems, fresh, unshiftedBy, readCase}
 use Rattle.agree.specs.Agrees.{Agrees, ObeysAt, Obeys}
 use Rattle.agree.proofs.Agreement.{agreement, unknown-agrees}
-use Rattle.agree.proofs.Folds.{prints-append, items-noted}
+use Rattle.agree.proofs.Folds.{items-noted}
 use Rattle.step.specs.Route.{route}
 use Rattle.step.specs.State.{withReader, withReading}
-use Rattle.step.specs.Step.{readAs, readCase, hosted, lined, tued, step, Event, run}
-use Rattle.linebox.specs.Ends.{events, firstsOf, Cut, Fed, feeding}
+use Rattle.step.specs.Step.{readAs, hosted, lined, tued, step, Event, run}
+use Rattle.linebox.specs.Ends.{events, Cut, Fed, feeding}
 use Rattle.settings.proofs.Written.{commanded-keeps}
 use Rattle.linebox.proofs.Cutting.{cutting}
 use Rattle.step.proofs.Ways.{lined-touches, tued-touches}
-use Rattle.demands.specs.Names.{Case, Letters, Kind, Still, Space, Return, Shift, Char, Settings, Connection, Route, ToHost, Printer, Reader, Out, Nothing, One, Two, Finished, State, Stream, Host, Line, Tu}
+use Rattle.demands.specs.Names.{Case, Kind, Still, Space, Return, Shift, Char, Settings, Connection, Route, ToHost, Printer, Reader, Out, Nothing, One, Two, Finished, State, Stream, Host, Line, Tu}
 use Rattle.demands.specs.Connects.{connecting, connectsBy, connects}
 use Rattle.demands.specs.Items.{itemsOf}
 use Rattle.demands.specs.Asks.{codeIn, textBytes, hostAsks, tuAsks, asksBy, asks}
-use Rattle.demands.specs.Lent.{lines}
+use Rattle.demands.specs.Lent.{lines, inForce}
 use Rattle.demands.specs.Printing.{charactersOf}
 use Rattle.demands.specs.Whole.{asksAll}
-use Rattle.demands.specs.ReadingBack.{readBack, hostByte, hostBytes, texts, plainText, AllPlain, Joins, ReadsBack}
+use Rattle.demands.specs.ReadingBack.{under, readBack, hostByte, hostBytes, texts, plainText, AllPlain, Joins, ReadsBack}
 use Rattle.demands.proofs.Sending.{line-items, sender-items}
 use Rattle.demands.proofs.Sessions.{lines-append}
 use Rattle.demands.proofs.Reading.{items-read}
 use Rattle.demands.proofs.Stretches.{characters-append, items-printed, plain-printed}
 
--- A printer that never unshifts by itself.
+-- A printer whose own habits are the options in force.
 
-abbrev follower : Case → ℕ → Printer
-follower case n = from case n false false
+abbrev follower : Settings → Case → ℕ → Printer
+follower o case n = from case n (onspace o) (onreturn o)
 
--- is the box's own reader of line codes
+-- obeys these options
+module _ (o : Settings) where
+  own-at : (case : Case) (n : ℕ) (k : Kind) → ObeysAt o (follower o case n) k
+  own-at case n Still = tt
+  own-at case n Space = λ h. h
+  own-at case n Return = λ h. h
+  own-at case n (Shift to) = tt
+  own-at case n (Char bell) = tt
+
+  own : (case : Case) (n : ℕ) (cs : List ℕ) → Obeys o (follower o case n) cs
+  own case n [] = tt
+  own case n (c ∷ cs) = let q = hear (follower o case n) c in (own-at case n (kindOf c), own (q .case) (q .count) cs)
+
+-- and is the box's own reader of line codes: it goes to the same case
+unshifted-alike : (on : Bool) (case : Case) → unshiftedBy on case ≡ unshifted on case
+unshifted-alike true case = refl
+unshifted-alike false case = refl
+
+case-heard : (o : Settings) (case : Case) (n : ℕ) (k : Kind) → readCase o case k ≡ hearCase (follower o case n) k
+case-heard o case n Still = refl
+case-heard o case n Space = unshifted-alike (onspace o) case
+case-heard o case n Return = unshifted-alike (onreturn o) case
+case-heard o case n (Shift to) = refl
+case-heard o case n (Char bell) = refl
+
+-- and prints what is read
+read-printed : (case : Case) (n : ℕ) (k : Kind) (c : ℕ) → readAs false case k c ≡ charactersOf (printsAs k (markAs k case n c))
+read-printed case n Still c = refl
+read-printed case n Space c = refl
+read-printed case n Return c = refl
+read-printed case n (Shift to) c = refl
+read-printed case n (Char bell) c = refl
+
 to-host : (k : Connection) → k .mode ≡ 1 → route k Line ≡ ToHost
 unfolding route
 to-host k e = rw e
 
-line-reads : (cs : List ℕ) (s : State) (n : ℕ) → s .connection .mode ≡ 1 → reports (s .settings) ≡ false → firstsOf Line s cs ≡ charactersOf (printsAll (follower (s .reading) n) cs)
-line-reads [] s n e off = refl
-line-reads (c ∷ cs) s n e off =
-    ap (λ (k : Route). lined k s c .host ++ firstsOf Line (lined k s c .state) cs) (to-host (s .connection) e)
-    ∙ ap (λ (b : Bool). readAs b (s .reading) (kindOf c) c ++ firstsOf Line (withReading s (readCase (s .reading) (kindOf c))) cs) off
-    ∙ go (kindOf c) (λ case m. line-reads cs (withReading s case) m e off)
-  where
-    go : (k : Kind) → ((case : Case) (m : ℕ) → firstsOf Line (withReading s case) cs ≡ charactersOf (printsAll (follower case m) cs))
-        → readAs false (s .reading) k c ++ firstsOf Line (withReading s (readCase (s .reading) k)) cs ≡ charactersOf (printsAs k (markAs k (s .reading) n c) ++ printsAll (hearKind (follower (s .reading) n) k) cs)
-    go Still rest = ap (λ (r : List ℕ). rowAt (s .reading) c ∷ r) (rest (s .reading) n)
-    go Space rest = ap (λ (r : List ℕ). rowAt (s .reading) c ∷ r) (rest (s .reading) (n + 1))
-    go Return rest = ap (λ (r : List ℕ). rowAt (s .reading) c ∷ r) (rest (s .reading) 0)
-    go (Shift to) rest = rest to n
-    go (Char bell) rest = ap (λ (r : List ℕ). rowAt (s .reading) c ∷ r) (rest (s .reading) (advanced (strikes bell (s .reading)) n))
+-- Codes sent under the same settings, and then others: what is read of these is for any reader in the case that the first ones leave.
+module _ (o : Settings) (off : reports o ≡ false) (os : List Settings) (rest text : List ℕ) where
+  stretch-reads : (cs : List ℕ) (r : State) (n : ℕ) → r .connection .mode ≡ 1
+      → ((q : State) → q .connection .mode ≡ 1 → q .reading ≡ hears (follower o (r .reading) n) cs .case → readBack q os rest ≡ text)
+      → readBack r (replicate (length cs) o ++ os) (cs ++ rest) ≡ charactersOf (printsAll (follower o (r .reading) n) cs) ++ text
+  stretch-reads [] r n e after = after r e refl
+  stretch-reads (c ∷ cs) r n e after =
+      let p = follower o (r .reading) n in
+      let next : (x : State) → List ℕ = λ (x : State). readBack x (replicate (length cs) o ++ os) (cs ++ rest) in
+      let given = readAs false (r .reading) (kindOf c) c in
+      let printed = printsAll (hear p c) cs in
+      ap (λ (k : Route). lined k (under o r) c .host ++ next (lined k (under o r) c .state)) (to-host (r .connection) e)
+      ∙ ap (λ (b : Bool). readAs b (r .reading) (kindOf c) c ++ next (withReading (under o r) (readCase o (r .reading) (kindOf c)))) off
+      ∙ ap (λ (case : Case). given ++ next (withReading (under o r) case)) (case-heard o (r .reading) n (kindOf c))
+      ∙ ap (λ (u : List ℕ). given ++ u) (stretch-reads cs (withReading (under o r) (hear p c .case)) (hear p c .count) e after)
+      ∙ ap (λ (u : List ℕ). u ++ (charactersOf printed ++ text)) (read-printed (r .reading) n (kindOf c) c)
+      ∙ rw (characters-append (prints p c) printed, append-assoc)
 
--- it obeys options 70 and 71 whatever they are
-module _ (o : Settings) where
-  never-at : (p : Printer) → p .onspace ≡ false → p .onreturn ≡ false → (k : Kind) → ObeysAt o p k
-  never-at p e f Still = tt
-  never-at p e f Space = λ h. absurd (false≢true (sym e ∙ h))
-  never-at p e f Return = λ h. absurd (false≢true (sym f ∙ h))
-  never-at p e f (Shift to) = tt
-  never-at p e f (Char bell) = tt
-
-  never : (p : Printer) (cs : List ℕ) → p .onspace ≡ false → p .onreturn ≡ false → Obeys o p cs
-  never p [] e f = tt
-  never p (c ∷ cs) e f = (never-at p e f (kindOf c), never (hear p c) cs e f)
-
-hears-onspace : (p : Printer) (cs : List ℕ) → hears p cs .onspace ≡ p .onspace
-hears-onspace p [] = refl
-hears-onspace p (c ∷ cs) = hears-onspace (hear p c) cs
-
-hears-onreturn : (p : Printer) (cs : List ℕ) → hears p cs .onreturn ≡ p .onreturn
-hears-onreturn p [] = refl
-hears-onreturn p (c ∷ cs) = hears-onreturn (hear p c) cs
-
--- Plain events: what it reads of them is what they ask for.
-plain-reads : (s : State) (p : Printer) (es : List Event) → p .onspace ≡ false → p .onreturn ≡ false → Agrees (s .sender .held) p → AllPlain s es → charactersOf (printsAll p (lines s es)) ≡ asksAll s es
-plain-reads s p [] e f a h = refl
-plain-reads s p (x ∷ es) e f a h =
+-- Plain events: what is read of them is what they ask for, by any reader that stands as the record says.
+plain-reads : (s : State) (es : List Event) (r : State) (n : ℕ) → r .connection .mode ≡ 1 → Agrees (s .sender .held) (follower (s .settings) (r .reading) n) → AllPlain s es
+    → readBack r (inForce s es) (lines s es) ≡ asksAll s es
+plain-reads s [] r n e a h = refl
+plain-reads s (x ∷ es) r n e a h =
     let o = s .settings in
+    let p = follower o (r .reading) n in
     let ws = itemsOf s x in
     let d = step (x .stream) s (x .byte) in
-    let obeys : Obeys o p (items o (s .sender) ws) = never o p (items o (s .sender) ws) e f in
+    let obeys : Obeys o p (items o (s .sender) ws) = own o (r .reading) n (items o (s .sender) ws) in
     let one : charactersOf (printsAll p (d .line)) ≡ asks s x =
     plain-printed o (h .0 .endings) p (d .line) (asks s x) (rw (line-items s x, ← items-read s x) (items-printed o (s .sender) p ws obeys a)) in
     let after : d .state .sender ≡ afterItems o (s .sender) ws = sender-items s x ∙ ap (λ (b : Bool). cond b fresh (afterItems o (s .sender) ws)) (h .0 .stays) in
     let heard : Agrees (d .state .sender .held) (hears p (d .line)) = rw (after, items-noted o (s .sender) ws, line-items s x) (agreement o (s .sender .held) p (items o (s .sender) ws) obeys a) in
-    ap charactersOf (prints-append p (d .line) (lines (d .state) es))
-    ∙ characters-append (printsAll p (d .line)) (printsAll (hears p (d .line)) (lines (d .state) es))
-    ∙ ap (λ (r : List ℕ). r ++ charactersOf (printsAll (hears p (d .line)) (lines (d .state) es))) one
-    ∙ ap (λ (r : List ℕ). asks s x ++ r) (plain-reads (d .state) (hears p (d .line)) es (hears-onspace p (d .line) ∙ e) (hears-onreturn p (d .line) ∙ f) heard (h .1))
+    stretch-reads o (h .0 .reports) (inForce (d .state) es) (lines (d .state) es) (asksAll (d .state) es) (d .line) r n e
+    (λ q f same. plain-reads (d .state) es q (hears p (d .line) .count) f (record { case = rw same (heard .case); column = heard .column }) (h .1))
+    ∙ ap (λ (u : List ℕ). u ++ asksAll (d .state) es) one
 
 -- Mode 1 stays.
 
@@ -150,18 +164,18 @@ asks-text s (x ∷ es) e h = go (x .stream) (x .byte) (asks-text (step (x .strea
         ∙ rest
         ∙ ap (λ (q : Reader). textBytes (texts (made q (hostBytes es)))) (ap (λ (x : State). x .reader) (tued-touches (route (s .connection) Tu) s b))
 
--- What a connection command that succeeds hands back.
+-- A connection command that succeeds sends nothing.
 
-hosted-fresh : (s : State) (r : Reader) (out : Out) → connecting s out ≡ true → (hosted (withReader s r) (s .reader .values) out .state .reading ≡ Letters) × (hosted (withReader s r) (s .reader .values) out .line ≡ [])
-hosted-fresh s r Nothing h = absurd (false≢true h)
-hosted-fresh s r (One b) h = absurd (false≢true h)
-hosted-fresh s r (Two b) h = absurd (false≢true h)
-hosted-fresh s r (Finished v count) h = (rw h refl, refl)
+hosted-silent : (s : State) (r : Reader) (out : Out) → connecting s out ≡ true → hosted (withReader s r) (s .reader .values) out .line ≡ []
+hosted-silent s r Nothing h = absurd (false≢true h)
+hosted-silent s r (One b) h = absurd (false≢true h)
+hosted-silent s r (Two b) h = absurd (false≢true h)
+hosted-silent s r (Finished v count) h = refl
 
-fresh-by : (t : Stream) (s : State) (b : ℕ) → connectsBy t s b ≡ true → (step t s b .state .reading ≡ Letters) × (step t s b .line ≡ [])
-fresh-by Host s b h = hosted-fresh s (read (s .reader) b .reader) (read (s .reader) b .out) h
-fresh-by Line s b h = absurd (false≢true h)
-fresh-by Tu s b h = absurd (false≢true h)
+silent-by : (t : Stream) (s : State) (b : ℕ) → connectsBy t s b ≡ true → step t s b .line ≡ []
+silent-by Host s b h = hosted-silent s (read (s .reader) b .reader) (read (s .reader) b .out) h
+silent-by Line s b h = absurd (false≢true h)
+silent-by Tu s b h = absurd (false≢true h)
 
 module _ (s : State) (e : Event) (j : Joins s e) where
   abbrev joined : State
@@ -173,19 +187,14 @@ module _ (s : State) (e : Event) (j : Joins s e) where
   -- From the state that a successful mode 1 connection command hands back, whatever came before it: any plain events after it,
   -- line and TU codes among the host bytes too. The box's own reading of all codes sent is the convertible text in capitals
   -- without its shift requests.
-  pub reads-back : (es : List Event) → AllPlain joined es → readBack joined (lines joined es) ≡ plainText joined es
-  reads-back [] h = refl
-  reads-back (x ∷ es) h =
-      line-reads (lines joined (x ∷ es)) joined 0 (j .mode1) (h .0 .reports)
-      ∙ ap (λ (case : Case). charactersOf (printsAll (follower case 0) (lines joined (x ∷ es)))) (fresh-by (e .stream) s (e .byte) (j .connects) .0)
-      ∙ plain-reads joined (follower Letters 0) (x ∷ es) refl refl (joined-agrees (follower Letters 0)) h
-      ∙ asks-text joined (x ∷ es) (j .mode1) h
+  pub reads-back : (es : List Event) → AllPlain joined es → readBack joined (inForce joined es) (lines joined es) ≡ plainText joined es
+  reads-back es h = plain-reads joined es joined 0 (j .mode1) (joined-agrees (follower (joined .settings) (joined .reading) 0)) h ∙ asks-text joined es (j .mode1) h
 
   -- The same of one host stream, cut into calls in any way and with any rooms, each going on at the first byte not taken.
   pub cut-reads-back : (xs : List ℕ) (cs : List Cut) → AllPlain joined (events Host xs) → feeding Host joined xs cs .taken ≡ length xs
-      → readBack joined (feeding Host joined xs cs .first) ≡ textBytes (texts (made (joined .reader) xs))
+      → readBack joined (inForce joined (events Host xs)) (feeding Host joined xs cs .first) ≡ textBytes (texts (made (joined .reader) xs))
   cut-reads-back xs cs h all =
-      ap (λ (f : Fed). readBack joined (f .first)) (cutting Host joined xs cs all)
+      ap (λ (f : Fed). readBack joined (inForce joined (events Host xs)) (f .first)) (cutting Host joined xs cs all)
       ∙ reads-back (events Host xs) h
       ∙ ap (λ (bs : List ℕ). textBytes (texts (made (joined .reader) bs))) (host-bytes xs)
 
@@ -195,13 +204,14 @@ lines-read-back start es before e after later split j h =
     let s = run start before in
     let x = step (e .stream) s (e .byte) in
     let now = lines (x .state) after in
+    let os = inForce (x .state) after in
     let rest = lines (run (x .state) after) later in
     let all : lines start es ≡ lines start before ++ (now ++ rest) =
     ap (lines start) split
     ∙ lines-append start before (e ∷ (after ++ later))
-    ∙ ap (λ (u : List ℕ). lines start before ++ (u ++ lines (x .state) (after ++ later))) (fresh-by (e .stream) s (e .byte) (j .connects) .1)
+    ∙ ap (λ (u : List ℕ). lines start before ++ (u ++ lines (x .state) (after ++ later))) (silent-by (e .stream) s (e .byte) (j .connects))
     ∙ ap (λ (u : List ℕ). lines start before ++ u) (lines-append (x .state) after later) in
-    ap (λ (u : List ℕ). readBack (x .state) (take (length now) (drop (length (lines start before)) u))) all
-    ∙ ap (λ (u : List ℕ). readBack (x .state) (take (length now) u)) (drop-at (lines start before) (now ++ rest) (length (lines start before)) refl)
-    ∙ ap (readBack (x .state)) (take-at now rest (length now) refl)
+    ap (λ (u : List ℕ). readBack (x .state) os (take (length now) (drop (length (lines start before)) u))) all
+    ∙ ap (λ (u : List ℕ). readBack (x .state) os (take (length now) u)) (drop-at (lines start before) (now ++ rest) (length (lines start before)) refl)
+    ∙ ap (readBack (x .state) os) (take-at now rest (length now) refl)
     ∙ reads-back s e j after h

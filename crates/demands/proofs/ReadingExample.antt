@@ -20,7 +20,7 @@ use Rattle.step.specs.Step.{step, Event, run}
 use Rattle.demands.specs.Names.{State}
 use Rattle.demands.specs.Box.{ours}
 use Rattle.demands.specs.Connects.{connects}
-use Rattle.demands.specs.Lent.{lines, tookAll, sentAll, exchanges}
+use Rattle.demands.specs.Lent.{lines, inForce, tookAll, sentAll, exchanges}
 use Rattle.demands.specs.ReadingBack.{readBack, plainText, AllPlain, Joins}
 use Rattle.demands.specs.ReadingExample.{calls, before, joining, after, later, connected, codes, lastCodes, text}
 use Rattle.demands.proofs.Lent.{ours-reads-back}
@@ -71,8 +71,8 @@ unfolding commanded row route soundSettings soundConnection soundString conversi
 example-text = refl
 
 -- so they read back
-pub example-reads-back : readBack connected codes ≡ text
+pub example-reads-back : readBack connected (inForce connected after) codes ≡ text
 example-reads-back =
-    ap (readBack connected) (sym example-stretch ∙ ap (λ (cs : List ℕ). take (length (lines connected after)) (drop (length (lines freshBox before)) cs)) (sym example-sent))
+    ap (readBack connected (inForce connected after)) (sym example-stretch ∙ ap (λ (cs : List ℕ). take (length (lines connected after)) (drop (length (lines freshBox before)) cs)) (sym example-sent))
     ∙ ours-reads-back freshBox calls before joining after later example-took example-joins example-plain
     ∙ example-text

@@ -1,15 +1,20 @@
 -- Calls one after the other: what each was given and what it gave, and what they took, sent and left together.
 use Prim.Native.Nat.{ℕ}
 use mathlib.Core.List.{List, [], _∷_, _++_}
-use lib.ListN.{take}
-use Rattle.step.specs.Step.{Step, Event, steps}
+use lib.ListN.{length, take, replicate}
+use Rattle.step.specs.Step.{Step, step, Event, steps}
 use Rattle.linebox.specs.Ends.{events, outputs}
-use Rattle.demands.specs.Names.{State, Stream, Host, Line, Tu}
+use Rattle.demands.specs.Names.{Settings, State, Stream, Host, Line, Tu}
 use Rattle.demands.specs.Box.{Result, Box}
 
 -- all codes that events send to the line
 abbrev pub lines : State → List Event → List ℕ
 lines s es = outputs (λ (x : Step). x .line) (steps s es)
+
+-- the settings in force for each of these codes: those before the byte that sent it
+abbrev pub inForce : State → List Event → List Settings
+inForce s [] = []
+inForce s (e ∷ es) = let x = step (e .stream) s (e .byte) in replicate (length (x .line)) (s .settings) ++ inForce (x .state) es
 
 -- what a call is given: bytes of a stream, and the two lent buffers
 pub record Lent : Type 0 where

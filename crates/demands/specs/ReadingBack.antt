@@ -7,17 +7,23 @@ use lib.ListN.{length, take, drop}
 use Rattle.command.specs.Read.{textOf}
 use Rattle.command.specs.Reads.{made}
 use Rattle.settings.specs.Options.{endings, reports}
-use Rattle.step.specs.Step.{step, Event, run}
-use Rattle.linebox.specs.Ends.{firstsOf}
-use Rattle.demands.specs.Names.{Out, State, Stream, Host, Line, Tu}
+use Rattle.step.specs.Step.{lineStep, step, Event, run}
+use Rattle.demands.specs.Names.{Settings, Out, State, Stream, Host, Line, Tu}
 use Rattle.demands.specs.Box.{Box}
-use Rattle.demands.specs.Lent.{lines, Lent, tookAll, sentAll, exchanges}
+use Rattle.demands.specs.Lent.{lines, inForce, Lent, tookAll, sentAll, exchanges}
 use Rattle.demands.specs.Asks.{textBytes}
 use Rattle.demands.specs.Connects.{connects}
 
--- the box's own line-to-host conversion: what codes from the line give to the host
-abbrev pub readBack : State → List ℕ → List ℕ
-readBack s cs = firstsOf Line s cs
+-- The reader.
+
+abbrev pub under : Settings → State → State
+under o s = record { settings = o; connection = s .connection; sender = s .sender; reading = s .reading; incoming = s .incoming; reader = s .reader }
+
+-- the box's own line-to-host conversion, each code read under the settings in force when it was sent
+abbrev pub readBack : State → List Settings → List ℕ → List ℕ
+readBack s [] cs = []
+readBack s (o ∷ os) [] = []
+readBack s (o ∷ os) (c ∷ cs) = let x = lineStep (under o s) c in x .host ++ readBack (x .state) os cs
 
 -- Text.
 
@@ -63,7 +69,7 @@ ReadsBack start es sent =
     (before : List Event) (e : Event) (after later : List Event) → es ≡ before ++ (e ∷ (after ++ later))
     → let s = run start before in
     let joined = step (e .stream) s (e .byte) .state in
-    Joins s e → AllPlain joined after → readBack joined (take (length (lines joined after)) (drop (length (lines start before)) sent)) ≡ plainText joined after
+    Joins s e → AllPlain joined after → readBack joined (inForce joined after) (take (length (lines joined after)) (drop (length (lines start before)) sent)) ≡ plainText joined after
 
 -- Of any box: any calls from any state, however the bytes were cut and whatever the buffers.
 abbrev pub ReadingBack : Box → Type 0

@@ -1,5 +1,6 @@
 -- Calls that meet every premise of reading back, from a fresh box: cut inside the connection command and inside text, with a line
--- code, 70 switched on, SO, SI and a byte without a code between; a second connection and its text come in the last call.
+-- code, SO, SI and a byte without a code between; 70 is on at the connection, and off before the second figure after a space; a second
+-- connection and its text come in the last call.
 use Prim.Native.Nat.{ℕ}
 use mathlib.Core.List.{List, [], _∷_, _++_}
 use lib.ListN.{replicate}
@@ -14,36 +15,40 @@ use Rattle.demands.specs.Traces.{write, mode1, on70}
 abbrev giving : Stream → ℕ → List ℕ → Lent
 giving t room bytes = record { stream = t; bytes = bytes; one = replicate room 0; two = replicate 200 0 }
 
--- ` `, SO, `2`, and SI, `~`, `bC`
+-- 70,1,0
+abbrev off70 : List ℕ
+off70 = write ++ 55 ∷ 48 ∷ 44 ∷ 49 ∷ 44 ∷ 48 ∷ 13 ∷ []
+
+-- ` `, SO, `2`, and ` 3`, SI, `~`, `bC`
 abbrev more : List ℕ
 more = 32 ∷ 14 ∷ 50 ∷ []
 
 abbrev last : List ℕ
-last = 15 ∷ 126 ∷ 98 ∷ 67 ∷ []
+last = 32 ∷ 51 ∷ 15 ∷ 126 ∷ 98 ∷ 67 ∷ []
 
 -- `DEF`
 abbrev others : List ℕ
 others = 68 ∷ 69 ∷ 70 ∷ []
 
--- the fourth stops for want of room before SI
+-- the fourth stops for want of room before the second space
 abbrev pub calls : List Lent
 calls =
-    giving Host 0 (write ++ 49 ∷ 44 ∷ 50 ∷ [])
+    giving Host 0 (on70 ++ write ++ 49 ∷ 44 ∷ 50 ∷ [])
     ∷ giving Host 20 (44 ∷ 49 ∷ 44 ∷ 54 ∷ 48 ∷ 13 ∷ 10 ∷ 97 ∷ 49 ∷ [])
     ∷ giving Line 20 (27 ∷ [])
-    ∷ giving Host 4 (on70 ++ more ++ last)
+    ∷ giving Host 4 (more ++ off70 ++ last)
     ∷ giving Host 20 (last ++ mode1 ++ others)
     ∷ []
 
 -- the bytes that they take: up to the CR that connects, that CR, up to the next connection command, and the others
 abbrev pub before : List Event
-before = events Host (write ++ 49 ∷ 44 ∷ 50 ∷ 44 ∷ 49 ∷ 44 ∷ 54 ∷ 48 ∷ [])
+before = events Host (on70 ++ write ++ 49 ∷ 44 ∷ 50 ∷ 44 ∷ 49 ∷ 44 ∷ 54 ∷ 48 ∷ [])
 
 abbrev pub joining : Event
 joining = record { stream = Host; byte = 13 }
 
 abbrev pub after : List Event
-after = events Host (10 ∷ 97 ∷ 49 ∷ []) ++ events Line (27 ∷ []) ++ events Host (on70 ++ more ++ last)
+after = events Host (10 ∷ 97 ∷ 49 ∷ []) ++ events Line (27 ∷ []) ++ events Host (more ++ off70 ++ last)
 
 abbrev pub later : List Event
 later = events Host (mode1 ++ others)
@@ -53,11 +58,11 @@ connected = step Host (run freshBox before) 13 .state
 
 -- the codes sent: for `after`, and for `later`
 abbrev pub codes : List ℕ
-codes = 31 ∷ 3 ∷ 27 ∷ 23 ∷ 4 ∷ 31 ∷ 27 ∷ 19 ∷ 31 ∷ 25 ∷ 14 ∷ []
+codes = 31 ∷ 3 ∷ 27 ∷ 23 ∷ 4 ∷ 31 ∷ 27 ∷ 19 ∷ 4 ∷ 1 ∷ 31 ∷ 25 ∷ 14 ∷ []
 
 abbrev pub lastCodes : List ℕ
 lastCodes = 31 ∷ 9 ∷ 1 ∷ 13 ∷ []
 
--- what reads back: `A1 2BC`
+-- what reads back: `A1 2 3BC`
 abbrev pub text : List ℕ
-text = 65 ∷ 49 ∷ 32 ∷ 50 ∷ 66 ∷ 67 ∷ []
+text = 65 ∷ 49 ∷ 32 ∷ 50 ∷ 32 ∷ 51 ∷ 66 ∷ 67 ∷ []
