@@ -168,7 +168,11 @@ static const struct trace tu_lines[] = {
 static const struct trace line_lines[] = {
     {"27 23 31 23 give 1Q", MODE_1, "27 23 31 23", "1Q"},
     {"74 on", MODE_1 ON("74"), "27 23 31 23", "\0161\017Q"},
-    {"space and CR do not unshift", MODE_1 ON("70") ON("71"), "27 23 4 23 8 23", "1 1\r1"},
+    {"space and CR do not unshift by themselves", MODE_1, "27 23 4 23 8 23", "1 1\r1"},
+    {"a space unshifts with 70 on, and a CR does not", MODE_1 ON("70"), "27 23 8 23 4 23", "1\r1 Q"},
+    {"a CR unshifts with 71 on, and a space does not", MODE_1 ON("71"), "27 23 4 23 8 23", "1 1\rQ"},
+    {"no SI for it with 74 on", MODE_1 ON("70") ON("71") ON("74"), "27 23 4 23 27 8 23", "\0161 Q\016\rQ"},
+    {"250 turns 70 off", MODE_1 ON("70") "/.TW,250,0\r", "27 23 4 23", "1 1"},
     {"a connection puts the case back", MODE_1, "23", "Q"},
     {"mode 11 drops", "", "27 23 31 23", ""},
     {"mode 4 gives the host nothing", MODE_4, "27 23 31 23", ""},
@@ -457,6 +461,19 @@ static void run_answers(void) {
   check(answer == 3 && done[0] == 0 && done[1] == 0, "3 comes before 2", "3: 0 0", "another");
 }
 
+/* A keyboard that unshifts: 70 switched on between two calls, and a space that is not taken. */
+static void run_typed(void) {
+  start(MODE_1);
+  linebox_line(state, (const uint8_t[]){27, 23, 4}, 3, first, ROOM, second, ROOM, done);
+  host(ON("70"));
+  linebox_line(state, (const uint8_t[]){23}, 1, first, ROOM, second, ROOM, done);
+  check(done[1] == 1 && first[0] == '1', "figures go on when 70 is switched on", "1", shown(first, done[1]));
+  uint32_t answer = linebox_line(state, (const uint8_t[]){4}, 1, first, 0, second, ROOM, done);
+  check(answer == 1 && state[LINEBOX_AT_READING] == 2, "a space that is not taken", "1, figures", "another");
+  linebox_line(state, (const uint8_t[]){23, 4, 23}, 3, first, ROOM, second, ROOM, done);
+  check(done[1] == 3 && memcmp(first, "1 Q", 3) == 0, "and then one that is", "1 Q", shown(first, done[1]));
+}
+
 /* A fresh box byte by byte, and line codes to the TU in mode 4. */
 static void run_fresh(void) {
   static const uint8_t expected[LINEBOX_STATE] = {[1] = 72, [6] = 8, 8, 2, 31, 31, [14] = 11, [21] = 1, 1};
@@ -464,10 +481,10 @@ static void run_fresh(void) {
   uint32_t answer = linebox_fresh(state);
   check(answer == 0 && memcmp(state, expected, LINEBOX_STATE) == 0, "a fresh box", "by the published offsets",
         decimals(state, LINEBOX_STATE));
-  start(MODE_4);
-  answer = linebox_line(state, (const uint8_t[]){27, 23, 31, 0}, 4, first, ROOM, second, ROOM, done);
-  check(answer == 0 && done[0] == 4 && done[1] == 0 && strcmp(decimals(second, done[2]), "27 23 31 0") == 0,
-        "line codes to the TU in mode 4", "27 23 31 0", decimals(second, done[2]));
+  start(MODE_4 ON("70") ON("71"));
+  answer = linebox_line(state, (const uint8_t[]){27, 23, 4, 23, 8, 31, 0}, 7, first, ROOM, second, ROOM, done);
+  check(answer == 0 && done[0] == 7 && done[1] == 0 && strcmp(decimals(second, done[2]), "27 23 4 23 8 31 0") == 0,
+        "line codes to the TU in mode 4", "27 23 4 23 8 31 0", decimals(second, done[2]));
 }
 
 #define EACH(table, run)                                                                                               \
@@ -482,6 +499,7 @@ int main(void) {
   run_ascii_table();
   run_baudot_table();
   run_answers();
+  run_typed();
   run_fresh();
   printf("lines: %u passed, %u failed\n", passed, failed);
   return failed != 0;

@@ -552,7 +552,12 @@ uint32_t model_line(uint8_t state[MODEL_STATE], const uint8_t *codes, uint64_t c
       SEEN(TO_HOST);
       host[hosts++] = to_byte[box.reading][code];
     }
-    if (box.mode == 1 && shift) box.reading = code == LTRS ? LETTERS : FIGURES;
+    if (box.mode == 1 && shift) {
+      box.reading = code == LTRS ? LETTERS : FIGURES;
+    } else if (box.mode == 1 && ((code == 4 && box.on_space) || (code == 8 && box.on_return))) {
+      if (box.reading == FIGURES) SEEN(READING_BACK);
+      box.reading = LETTERS;
+    }
   }
   memcpy(state, &box, sizeof box);
   done[0] = taken;

@@ -46,6 +46,7 @@ uint32_t model_find(const uint8_t *bytes, uint64_t len, uint64_t at[2]);
   EVENT(STRING_WRITTEN, "string 90 written")                                                                            \
   EVENT(CONNECTED, "connections written")                                                                               \
   EVENT(FACTORY, "settings back to factory")                                                                            \
+  EVENT(READING_BACK, "reading case back to letters")                                                                   \
   EVENT(REPORT, "SO or SI to the host")                                                                                 \
   EVENT(TO_HOST, "line codes to the host")                                                                              \
   EVENT(TO_TU, "line codes to the TU")                                                                                  \

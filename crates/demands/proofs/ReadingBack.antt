@@ -19,12 +19,12 @@ use Rattle.agree.proofs.Agreement.{agreement, unknown-agrees}
 use Rattle.agree.proofs.Folds.{items-noted}
 use Rattle.step.specs.Route.{route}
 use Rattle.step.specs.State.{withReader, withReading}
-use Rattle.step.specs.Step.{readAs, hosted, lined, tued, step, Event, run}
-use Rattle.linebox.specs.Ends.{events, Cut, Fed, feeding}
+use Rattle.step.specs.Step.{Step, readAs, hosted, lined, lineStep, tued, step, Event, run}
+use Rattle.linebox.specs.Ends.{events, firstsOf, Cut, Fed, feeding}
 use Rattle.settings.proofs.Written.{commanded-keeps}
 use Rattle.linebox.proofs.Cutting.{cutting}
 use Rattle.step.proofs.Ways.{lined-touches, tued-touches}
-use Rattle.demands.specs.Names.{Case, Kind, Still, Space, Return, Shift, Char, Settings, Connection, Route, ToHost, Printer, Reader, Out, Nothing, One, Two, Finished, State, Stream, Host, Line, Tu}
+use Rattle.demands.specs.Names.{Case, Kind, Still, Space, Return, Shift, Char, Settings, Connection, ToHost, Printer, Reader, Out, Nothing, One, Two, Finished, State, Stream, Host, Line, Tu}
 use Rattle.demands.specs.Connects.{connecting, connectsBy, connects}
 use Rattle.demands.specs.Items.{itemsOf}
 use Rattle.demands.specs.Asks.{codeIn, textBytes, hostAsks, tuAsks, asksBy, asks}
@@ -79,6 +79,26 @@ to-host : (k : Connection) → k .mode ≡ 1 → route k Line ≡ ToHost
 unfolding route
 to-host k e = rw e
 
+one-read : (o : Settings) → reports o ≡ false → (r : State) (n : ℕ) → r .connection .mode ≡ 1 → (c : ℕ) → let p = follower o (r .reading) n in
+    lineStep (under o r) c ≡ record { state = withReading (under o r) (hear p c .case); line = []; host = charactersOf (prints p c); tu = [] }
+one-read o off r n e c =
+    rw (to-host (r .connection) e, off, case-heard o (r .reading) n (kindOf c), read-printed (r .reading) n (kindOf c) c) refl
+
+own-reads : (s : State) (n : ℕ) (cs : List ℕ) → s .connection .mode ≡ 1 → reports (s .settings) ≡ false → firstsOf Line s cs ≡ charactersOf (printsAll (follower (s .settings) (s .reading) n) cs)
+own-reads s n [] e off = refl
+own-reads s n (c ∷ cs) e off =
+    let p = follower (s .settings) (s .reading) n in
+    ap (λ (x : Step). x .host ++ firstsOf Line (x .state) cs) (one-read (s .settings) off s n e c)
+    ∙ ap (λ (u : List ℕ). charactersOf (prints p c) ++ u) (own-reads (withReading s (hear p c .case)) (hear p c .count) cs e off)
+    ∙ sym (characters-append (prints p c) (printsAll (hear p c) cs))
+
+-- What the host gets of codes typed in mode 1 is what the operator's printer prints, if it unshifts as 70 and 71 say.
+pub typed-reads : (s : State) (p : Printer) (cs : List ℕ) → s .connection .mode ≡ 1 → reports (s .settings) ≡ false
+    → p .case ≡ s .reading → p .onspace ≡ onspace (s .settings) → p .onreturn ≡ onreturn (s .settings) → firstsOf Line s cs ≡ charactersOf (printsAll p cs)
+typed-reads s p cs e off case space return =
+    own-reads s (p .count) cs e off
+    ∙ ap (λ (q : Printer). charactersOf (printsAll q cs)) (rw (← case, ← space, ← return) refl)
+
 -- Codes sent under the same settings, and then others: what is read of these is for any reader in the case that the first ones leave.
 module _ (o : Settings) (off : reports o ≡ false) (os : List Settings) (rest text : List ℕ) where
   stretch-reads : (cs : List ℕ) (r : State) (n : ℕ) → r .connection .mode ≡ 1
@@ -87,15 +107,9 @@ module _ (o : Settings) (off : reports o ≡ false) (os : List Settings) (rest t
   stretch-reads [] r n e after = after r e refl
   stretch-reads (c ∷ cs) r n e after =
       let p = follower o (r .reading) n in
-      let next : (x : State) → List ℕ = λ (x : State). readBack x (replicate (length cs) o ++ os) (cs ++ rest) in
-      let given = readAs false (r .reading) (kindOf c) c in
-      let printed = printsAll (hear p c) cs in
-      ap (λ (k : Route). lined k (under o r) c .host ++ next (lined k (under o r) c .state)) (to-host (r .connection) e)
-      ∙ ap (λ (b : Bool). readAs b (r .reading) (kindOf c) c ++ next (withReading (under o r) (readCase o (r .reading) (kindOf c)))) off
-      ∙ ap (λ (case : Case). given ++ next (withReading (under o r) case)) (case-heard o (r .reading) n (kindOf c))
-      ∙ ap (λ (u : List ℕ). given ++ u) (stretch-reads cs (withReading (under o r) (hear p c .case)) (hear p c .count) e after)
-      ∙ ap (λ (u : List ℕ). u ++ (charactersOf printed ++ text)) (read-printed (r .reading) n (kindOf c) c)
-      ∙ rw (characters-append (prints p c) printed, append-assoc)
+      ap (λ (x : Step). x .host ++ readBack (x .state) (replicate (length cs) o ++ os) (cs ++ rest)) (one-read o off r n e c)
+      ∙ ap (λ (u : List ℕ). charactersOf (prints p c) ++ u) (stretch-reads cs (withReading (under o r) (hear p c .case)) (hear p c .count) e after)
+      ∙ rw (characters-append (prints p c) (printsAll (hear p c) cs), append-assoc)
 
 -- Plain events: what is read of them is what they ask for, by any reader that stands as the record says.
 plain-reads : (s : State) (es : List Event) (r : State) (n : ℕ) → r .connection .mode ≡ 1 → Agrees (s .sender .held) (follower (s .settings) (r .reading) n) → AllPlain s es

@@ -1,8 +1,8 @@
--- The example of reading back meets every premise, by computed tests, and so reads back.
+-- The example of reading back meets every premise, by computed tests, and so reads back; so does that of a keyboard.
 -- Assumes nothing.
 use Prim.Native.Nat.{ℕ}
 use mathlib.Core.Path.{_≡_, refl, sym, ap, _∙_}
-use mathlib.Core.Bool.{Bool, true, not, _&&_}
+use mathlib.Core.Bool.{Bool, true, false, not, _&&_}
 use mathlib.Core.List.{List, [], _∷_, _++_}
 use borrow.Author.Tests.{not-true}
 use lib.ListN.{length, take, drop}
@@ -14,16 +14,20 @@ use Rattle.message.specs.Message.{digits}
 use Rattle.settings.specs.Table.{row, soundString, soundSettings, soundConnection}
 use Rattle.settings.specs.Command.{commanded}
 use Rattle.settings.specs.Options.{endings, limit, onspace, onreturn, filter, reports, endingCodes}
+use Rattle.printer.specs.Printer.{from, printsAll}
 use Rattle.step.specs.Route.{route}
 use Rattle.step.specs.State.{freshBox}
 use Rattle.step.specs.Step.{step, Event, run}
-use Rattle.demands.specs.Names.{State}
+use Rattle.linebox.specs.Ends.{firstsOf}
+use Rattle.demands.specs.Names.{Letters, State, Line}
 use Rattle.demands.specs.Box.{ours}
 use Rattle.demands.specs.Connects.{connects}
 use Rattle.demands.specs.Lent.{lines, inForce, tookAll, sentAll, exchanges}
+use Rattle.demands.specs.Printing.{charactersOf}
 use Rattle.demands.specs.ReadingBack.{readBack, plainText, AllPlain, Joins}
-use Rattle.demands.specs.ReadingExample.{calls, before, joining, after, later, connected, codes, lastCodes, text}
+use Rattle.demands.specs.ReadingExample.{calls, before, joining, after, later, connected, codes, lastCodes, text, typed, typedText}
 use Rattle.demands.proofs.Lent.{ours-reads-back}
+use Rattle.demands.proofs.ReadingBack.{typed-reads}
 
 -- The premises as a test.
 
@@ -76,3 +80,12 @@ example-reads-back =
     ap (readBack connected (inForce connected after)) (sym example-stretch ∙ ap (λ (cs : List ℕ). take (length (lines connected after)) (drop (length (lines freshBox before)) cs)) (sym example-sent))
     ∙ ours-reads-back freshBox calls before joining after later example-took example-joins example-plain
     ∙ example-text
+
+-- The host gets `1 Q` of FIGS 1 SP Q, and so a printer that unshifts on space shows it, anywhere on the line.
+pub example-typed : firstsOf Line connected typed ≡ typedText
+unfolding commanded row route soundSettings soundConnection soundString kindOf rowAt onspace onreturn reports
+example-typed = refl
+
+pub example-shown : charactersOf (printsAll (from Letters 7 true false) typed) ≡ typedText
+unfolding commanded row route soundSettings soundConnection soundString onspace onreturn reports
+example-shown = sym (typed-reads connected (from Letters 7 true false) typed refl refl refl refl refl) ∙ example-typed

@@ -66,3 +66,10 @@ lastCodes = 31 ∷ 9 ∷ 1 ∷ 13 ∷ []
 -- what reads back: `A1 2 3BC`
 abbrev pub text : List ℕ
 text = 65 ∷ 49 ∷ 32 ∷ 50 ∷ 32 ∷ 51 ∷ 66 ∷ 67 ∷ []
+
+-- what an operator types after the connection, FIGS 1 SP Q, and what the host gets: `1 Q`
+abbrev pub typed : List ℕ
+typed = 27 ∷ 23 ∷ 4 ∷ 23 ∷ []
+
+abbrev pub typedText : List ℕ
+typedText = 49 ∷ 32 ∷ 81 ∷ []

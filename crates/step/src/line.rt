@@ -35,7 +35,7 @@ fn is_read(reports: bool, k: Kind) -> bool
     }
 }
 
-// A line code read for the host.
+// A line code read for the host, in the case before it.
 fn put_read(s: State, c: u8, out: &mut [u8]) -> Took
     ensures { λ r. ⌜
         Puts (withReading s (readCase (s .settings) (s .reading) (kindOf c))) (readAs (reports (s .settings)) (s .reading) (kindOf c) c) (now (out .entry)) (now (out .exit)) r
@@ -44,7 +44,9 @@ fn put_read(s: State, c: u8, out: &mut [u8]) -> Took
     let settings = s.settings;
     let case = s.reading;
     let k = code::kind_of(c);
-    let next = with_reading(s, case_after(settings.onspace(), settings.onreturn(), case, k));
+    let onspace = settings.onspace();
+    let onreturn = settings.onreturn();
+    let next = with_reading(s, case_after(onspace, onreturn, case, k));
     if is_read(settings.reports(), k) {
         put_one(next, code::row_at(case, c), out)
     } else {
