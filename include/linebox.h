@@ -67,8 +67,8 @@ enum { LINEBOX_LINE_LEAST = 16, LINEBOX_HOST_LEAST = 36 };
  *   18        record: whether the column is known                      0, 1
  *   19        record: column (0 while unknown)                         0 to 255
  *   20        last item                                                0 any other or none, 1 LTRS, 2 FIGS
- *   21        reading case: in mode 1, of the next code from the       1 letters, 2 figures
- *             line; a space (70 on) or a return (71 on) puts it back
+ *   21        reading case, of the next line code in mode 1; back to   1 letters, 2 figures
+ *             letters after a space (70 on) and a return (71 on)
  *   22        incoming reading case                                    1 letters, 2 figures
  *   23        command reader's stage                                   0 text, 1 text after a command's CR (an LF is swallowed),
  *                                                                      2 `/` held, 3 `/.` came, 4 one letter, 5 both letters,

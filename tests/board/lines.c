@@ -469,7 +469,7 @@ static void run_typed(void) {
   linebox_line(state, (const uint8_t[]){23}, 1, first, ROOM, second, ROOM, done);
   check(done[1] == 1 && first[0] == '1', "figures go on when 70 is switched on", "1", shown(first, done[1]));
   uint32_t answer = linebox_line(state, (const uint8_t[]){4}, 1, first, 0, second, ROOM, done);
-  check(answer == 1 && state[LINEBOX_AT_READING] == 2, "a space that is not taken", "1, figures", "another");
+  check(answer == 1 && state[21] == 2, "a space that is not taken", "1, figures", "another");
   linebox_line(state, (const uint8_t[]){23, 4, 23}, 3, first, ROOM, second, ROOM, done);
   check(done[1] == 3 && memcmp(first, "1 Q", 3) == 0, "and then one that is", "1 Q", shown(first, done[1]));
 }
