@@ -13,7 +13,8 @@ use Rattle.command.specs.Read.{read, textOf}
 use Rattle.command.specs.Reads.{made}
 use Rattle.settings.specs.Options.{onspace, onreturn, reports}
 use Rattle.printer.specs.Printer.{unshifted, hearCase, hear, hears, from, markAs, printsAs, prints, printsAll}
-use Rattle.sender.specs.Item.{items, afterItems, fresh, unshiftedBy, readCase}
+use Rattle.sender.specs.Reading.{unshiftedBy, readCase}
+use Rattle.sender.specs.Item.{items, afterItems, fresh}
 use Rattle.agree.specs.Agrees.{Agrees, ObeysAt, Obeys}
 use Rattle.agree.proofs.Agreement.{agreement, unknown-agrees}
 use Rattle.agree.proofs.Folds.{items-noted}
@@ -44,16 +45,16 @@ follower o case n = from case n (onspace o) (onreturn o)
 
 -- obeys these options
 module _ (o : Settings) where
-  own-at : (case : Case) (n : ℕ) (k : Kind) → ObeysAt o (follower o case n) k
-  own-at case n Still = tt
-  own-at case n Space = λ h. h
-  own-at case n Return = λ h. h
-  own-at case n (Shift to) = tt
-  own-at case n (Char bell) = tt
+  obeys-at : (case : Case) (n : ℕ) (k : Kind) → ObeysAt o (follower o case n) k
+  obeys-at case n Still = tt
+  obeys-at case n Space = λ h. h
+  obeys-at case n Return = λ h. h
+  obeys-at case n (Shift to) = tt
+  obeys-at case n (Char bell) = tt
 
-  own : (case : Case) (n : ℕ) (cs : List ℕ) → Obeys o (follower o case n) cs
-  own case n [] = tt
-  own case n (c ∷ cs) = let q = hear (follower o case n) c in (own-at case n (kindOf c), own (q .case) (q .count) cs)
+  obeys-own : (case : Case) (n : ℕ) (cs : List ℕ) → Obeys o (follower o case n) cs
+  obeys-own case n [] = tt
+  obeys-own case n (c ∷ cs) = let q = hear (follower o case n) c in (obeys-at case n (kindOf c), obeys-own (q .case) (q .count) cs)
 
 -- and is the box's own reader of line codes: it goes to the same case
 unshifted-alike : (on : Bool) (case : Case) → unshiftedBy on case ≡ unshifted on case
@@ -84,22 +85,23 @@ one-read : (o : Settings) → reports o ≡ false → (r : State) (n : ℕ) → 
 one-read o off r n e c =
     rw (to-host (r .connection) e, off, case-heard o (r .reading) n (kindOf c), read-printed (r .reading) n (kindOf c) c) refl
 
-own-reads : (s : State) (n : ℕ) (cs : List ℕ) → s .connection .mode ≡ 1 → reports (s .settings) ≡ false → firstsOf Line s cs ≡ charactersOf (printsAll (follower (s .settings) (s .reading) n) cs)
-own-reads s n [] e off = refl
-own-reads s n (c ∷ cs) e off =
+follower-reads : (s : State) (n : ℕ) (cs : List ℕ) → s .connection .mode ≡ 1 → reports (s .settings) ≡ false → firstsOf Line s cs ≡ charactersOf (printsAll (follower (s .settings) (s .reading) n) cs)
+follower-reads s n [] e off = refl
+follower-reads s n (c ∷ cs) e off =
     let p = follower (s .settings) (s .reading) n in
     ap (λ (x : Step). x .host ++ firstsOf Line (x .state) cs) (one-read (s .settings) off s n e c)
-    ∙ ap (λ (u : List ℕ). charactersOf (prints p c) ++ u) (own-reads (withReading s (hear p c .case)) (hear p c .count) cs e off)
+    ∙ ap (λ (u : List ℕ). charactersOf (prints p c) ++ u) (follower-reads (withReading s (hear p c .case)) (hear p c .count) cs e off)
     ∙ sym (characters-append (prints p c) (printsAll (hear p c) cs))
 
 -- What the host gets of codes typed in mode 1 is what the operator's printer prints, if it unshifts as 70 and 71 say.
 pub typed-reads : (s : State) (p : Printer) (cs : List ℕ) → s .connection .mode ≡ 1 → reports (s .settings) ≡ false
     → p .case ≡ s .reading → p .onspace ≡ onspace (s .settings) → p .onreturn ≡ onreturn (s .settings) → firstsOf Line s cs ≡ charactersOf (printsAll p cs)
 typed-reads s p cs e off case space return =
-    own-reads s (p .count) cs e off
+    follower-reads s (p .count) cs e off
     ∙ ap (λ (q : Printer). charactersOf (printsAll q cs)) (rw (← case, ← space, ← return) refl)
 
--- Codes sent under the same settings, and then others: what is read of these is for any reader in the case that the first ones leave.
+-- Codes sent under the same settings, and others after them: if every reader in the case that the first ones leave reads `text` of the
+-- others, then all of them read as what the printer prints of the first, and `text`.
 module _ (o : Settings) (off : reports o ≡ false) (os : List Settings) (rest text : List ℕ) where
   stretch-reads : (cs : List ℕ) (r : State) (n : ℕ) → r .connection .mode ≡ 1
       → ((q : State) → q .connection .mode ≡ 1 → q .reading ≡ hears (follower o (r .reading) n) cs .case → readBack q os rest ≡ text)
@@ -120,7 +122,7 @@ plain-reads s (x ∷ es) r n e a h =
     let p = follower o (r .reading) n in
     let ws = itemsOf s x in
     let d = step (x .stream) s (x .byte) in
-    let obeys : Obeys o p (items o (s .sender) ws) = own o (r .reading) n (items o (s .sender) ws) in
+    let obeys : Obeys o p (items o (s .sender) ws) = obeys-own o (r .reading) n (items o (s .sender) ws) in
     let one : charactersOf (printsAll p (d .line)) ≡ asks s x =
     plain-printed o (h .0 .endings) p (d .line) (asks s x) (rw (line-items s x, ← items-read s x) (items-printed o (s .sender) p ws obeys a)) in
     let after : d .state .sender ≡ afterItems o (s .sender) ws = sender-items s x ∙ ap (λ (b : Bool). cond b fresh (afterItems o (s .sender) ws)) (h .0 .stays) in

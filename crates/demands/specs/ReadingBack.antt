@@ -63,7 +63,7 @@ pub record Joins (s : State) (e : Event) : Type 0 where
   pub mode1 : step (e .stream) s (e .byte) .state .connection .mode ≡ 1
 
 -- Of a state, the bytes taken from it and the codes sent: where the bytes are some, one that joins, then plain ones and any others,
--- a connection among them too, the codes that the plain ones sent read back as their text.
+-- a connection among them too, the codes that the plain ones sent, each with its settings, read back as their text.
 abbrev pub ReadsBack : State → List Event → List ℕ → Type 0
 ReadsBack start es sent =
     (before : List Event) (e : Event) (after later : List Event) → es ≡ before ++ (e ∷ (after ++ later))

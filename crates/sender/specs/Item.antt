@@ -4,7 +4,7 @@ use mathlib.Core.Bool.{Bool, true, false, cond, _&&_}
 use mathlib.Core.List.{List, [], _∷_, _++_}
 use Rattle.code.specs.Kinds.{kindOf}
 use Rattle.code.specs.Convert.{conversion}
-use Rattle.settings.specs.Options.{onspace, onreturn, filter}
+use Rattle.settings.specs.Options.{filter}
 use Rattle.sender.specs.Names.{Case, Letters, Figures, Kind, Still, Space, Return, Shift, Char, Conversion, Nothing, Free, Cased, Settings, Record, Last, Wanted, Sender, Asks, Text, Codes}
 use Rattle.sender.specs.Names.last
 use Rattle.sender.specs.Record.{unknown, notes}
@@ -72,21 +72,3 @@ wantedBy asks b = wantedOf (converted asks b)
 abbrev pub wantedText : List ℕ → List Wanted
 wantedText [] = []
 wantedText (b ∷ bs) = wantedBy Text b ++ wantedText bs
-
--- Reading cases: mode 1's of line codes, and mode 4's incoming one.
-
-abbrev pub unshiftedBy : Bool → Case → Case
-unshiftedBy true case = Letters
-unshiftedBy false case = case
-
--- what 27 or 31 says after a shift, letters after a space or a CR that unshifts, and otherwise as it was
-abbrev pub caseAfter : Bool → Bool → Case → Kind → Case
-caseAfter onspace onreturn case Still = case
-caseAfter onspace onreturn case Space = unshiftedBy onspace case
-caseAfter onspace onreturn case Return = unshiftedBy onreturn case
-caseAfter onspace onreturn case (Shift to) = to
-caseAfter onspace onreturn case (Char bell) = case
-
--- a space unshifts with 70 on, a CR with 71 on
-abbrev pub readCase : Settings → Case → Kind → Case
-readCase o case k = caseAfter (onspace o) (onreturn o) case k

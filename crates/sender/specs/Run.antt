@@ -9,7 +9,8 @@ use Rattle.laws.specs.Written.{fronted, Filled}
 use Rattle.code.specs.Kinds.{kindOf}
 use Rattle.sender.specs.Names.{Case, Letters, Conversion, Nothing, Free, Cased, Settings, Record, Wanted, Sender, Asks, Text, Codes, Until, Never, Byte, Above, Noted, Item, Sent}
 use Rattle.sender.specs.Record.{notes}
-use Rattle.sender.specs.Item.{items, afterItems, wanted, wantedBy, readCase}
+use Rattle.sender.specs.Reading.{readCase}
+use Rattle.sender.specs.Item.{items, afterItems, wanted, wantedBy}
 
 -- codes at the front of a buffer, each noted in the record
 pub record Notes (o : Settings) (start : Record) (codes old now : List ℕ) (r : Noted) : Type 0 where

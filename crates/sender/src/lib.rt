@@ -4,6 +4,7 @@ use code::Case;
 
 mod codes;
 mod items;
+pub mod readings;
 mod records;
 pub mod runs;
 

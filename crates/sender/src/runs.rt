@@ -5,7 +5,7 @@ ghost use lib.Dec.{leb};
 ghost use lib.ListN.{length};
 ghost use Rattle.convert.specs.Entry.{Tabled};
 ghost use Rattle.settings.specs.Options.{endingCodes};
-ghost use Rattle.sender.specs.Item.{items, wantedOf, converted, unshiftedBy, caseAfter};
+ghost use Rattle.sender.specs.Item.{items, wantedOf, converted};
 ghost use Rattle.sender.specs.Run.{isNone, wantedAs, asksNext, caseAsked, stopsAt, PutsItems, most, runOf, SendsRun};
 use crate::Asks;
 use crate::Item;
@@ -14,30 +14,10 @@ use crate::Sent;
 use crate::Until;
 use crate::Wanted;
 use crate::items::put_item;
+use crate::readings::case_after;
 use code::Case;
 use code::Conversion;
-use code::Kind;
 use settings::Settings;
-
-// Letters where the option is on, and else the case as it was.
-fn unshifted_by(on: bool, case: Case) -> Case
-    ensures { λ r. ⌜ r ≡ unshiftedBy on case ⌝ }
-{
-    if on { Case::Letters } else { case }
-}
-
-// The case that the next code is read in, as a space and a return unshift or not.
-pub fn case_after(onspace: bool, onreturn: bool, case: Case, k: Kind) -> Case
-    ensures { λ r. ⌜ r ≡ caseAfter onspace onreturn case k ⌝ }
-{
-    match k {
-        Kind::Still => case,
-        Kind::Space => unshifted_by(onspace, case),
-        Kind::Return => unshifted_by(onreturn, case),
-        Kind::Shift(to) => to,
-        Kind::Char(_) => case,
-    }
-}
 
 // How the byte after this one asks.
 fn next_asks(o: Settings, asks: Asks, b: u8) -> Asks

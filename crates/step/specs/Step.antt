@@ -9,7 +9,8 @@ use Rattle.message.specs.Message.{framed}
 use Rattle.command.specs.Read.{read, textOf}
 use Rattle.settings.specs.Command.{commanded}
 use Rattle.settings.specs.Options.{reports}
-use Rattle.sender.specs.Item.{items, afterItems, wanted, wantedText, readCase}
+use Rattle.sender.specs.Reading.{readCase}
+use Rattle.sender.specs.Item.{items, afterItems, wanted, wantedText}
 use Rattle.step.specs.Names.{Case, Kind, Still, Space, Return, Shift, Char, Reader, Out, Nothing, One, Two, Finished, Route, Dropped, ToPrinter, ToHost, ToTu, Outcome, Wanted, State, Stream, Host, Line, Tu}
 use Rattle.step.specs.Route.{route}
 use Rattle.step.specs.State.{withReader, withSender, withReading, withIncoming, withStored}
@@ -68,7 +69,7 @@ isRead reports (Char bell) = true
 abbrev pub readAs : Bool → Case → Kind → ℕ → List ℕ
 readAs reports case k c = cond (isRead reports k) (rowAt case c ∷ []) []
 
--- line codes on their route: read for the host in the reading case before it, or to the TU unchanged
+-- line codes on their route: each read for the host in the case before it, or to the TU unchanged
 abbrev pub lined : Route → State → ℕ → Step
 lined Dropped s c = quiet s
 lined ToPrinter s c = quiet s

@@ -2,7 +2,7 @@
 ghost use mathlib.Core.Path.{_≡_};
 ghost use Rattle.code.specs.Kinds.{kindOf};
 ghost use Rattle.settings.specs.Options.{reports};
-ghost use Rattle.sender.specs.Item.{readCase};
+ghost use Rattle.sender.specs.Reading.{readCase};
 ghost use Rattle.step.specs.Names.{Line as Names·Line};
 ghost use Rattle.step.specs.State.{withReading};
 ghost use Rattle.step.specs.Step.{isRead, readAs, lineStep};
@@ -20,7 +20,7 @@ use crate::routes::route;
 use crate::states::with_reading;
 use code::Case;
 use code::Kind;
-use sender::runs::case_after;
+use sender::readings::case_after;
 
 // Whether a code of this kind gives the host a byte.
 fn is_read(reports: bool, k: Kind) -> bool

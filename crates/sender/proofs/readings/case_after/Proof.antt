@@ -1,8 +1,8 @@
--- `sender::runs::case_after` meets its contract: each kind has its case of `caseAfter`.
+-- `sender::readings::case_after` meets its contract: each kind has its case of `caseAfter`.
 -- Assumes nothing.
 use borrow.Author.Needs.{needs}
-use Rattle.sender.proofs.runs.case_after.Statement.{statement}
-use Rattle.sender.proofs.runs.case_after.Tie as tie
+use Rattle.sender.proofs.readings.case_after.Statement.{statement}
+use Rattle.sender.proofs.readings.case_after.Tie as tie
 
 enum-told : tie.Need-enum-told
 enum-told c = search needs
