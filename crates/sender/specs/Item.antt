@@ -5,7 +5,7 @@ use mathlib.Core.List.{List, [], _∷_, _++_}
 use Rattle.code.specs.Kinds.{kindOf}
 use Rattle.code.specs.Convert.{conversion}
 use Rattle.settings.specs.Options.{filter}
-use Rattle.sender.specs.Names.{Case, Letters, Figures, Kind, Still, Space, Return, Shift, Char, Conversion, Nothing, Free, Cased, Settings, Record, Last, Wanted, Sender, Asks, Text, Codes}
+use Rattle.sender.specs.Names.{Case, Letters, Kind, Still, Space, Return, Shift, Char, Conversion, Nothing, Free, Cased, Settings, Record, Last, Wanted, Sender, Asks, Text, Codes}
 use Rattle.sender.specs.Names.last
 use Rattle.sender.specs.Record.{unknown, notes}
 use Rattle.sender.specs.Code.{sameCase, sendAs}
