@@ -3,6 +3,7 @@ use mathlib.Core.Bool.{Bool, true, false}
 use Rattle.settings.specs.Options.{onspace, onreturn}
 use Rattle.sender.specs.Names.{Case, Letters, Kind, Still, Space, Return, Shift, Char, Settings}
 
+-- letters where the option is on
 abbrev pub unshiftedBy : Bool → Case → Case
 unshiftedBy true case = Letters
 unshiftedBy false case = case
