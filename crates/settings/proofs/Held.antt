@@ -10,7 +10,7 @@ use lib.Dec.{eqb, leb, lit≤}
 use lib.ListN.{length, getD, set}
 use Rattle.laws.proofs.Both.{both}
 use Rattle.settings.specs.Names.{Settings}
-use Rattle.settings.specs.Table.{between, Option, options, allIn, soundString, soundSettings}
+use Rattle.settings.specs.Table.{between, Option, options, allIn, soundStandIn, soundString, soundSettings}
 use Rattle.settings.specs.Options.{limit, endingCodes}
 use Rattle.settings.proofs.Rows.{lowAt, highAt}
 
@@ -47,23 +47,33 @@ set-get (v ∷ vs) (suc i) n l = set-get vs i n (omega (arith, l))
 -- Sound settings.
 
 module _ (s : Settings) (h : soundSettings s ≡ true) where
-  tests : (allIn options (s .values) ≡ true) × ((eqb (length (s .string)) 8 && soundString (s .string)) ≡ true)
+  tests : (allIn options (s .values) ≡ true) × ((soundStandIn s ≡ true) × ((eqb (length (s .string)) 8 && soundString (s .string)) ≡ true))
   unfolding soundSettings
-  tests = both (allIn options (s .values)) (eqb (length (s .string)) 8 && soundString (s .string)) h
+  tests =
+      let b = both (allIn options (s .values)) (soundStandIn s && (eqb (length (s .string)) 8 && soundString (s .string))) h in
+      (b .0, both (soundStandIn s) (eqb (length (s .string)) 8 && soundString (s .string)) (b .1))
 
   -- a value for each option, in its range
   pub values-in : allIn options (s .values) ≡ true
   values-in = tests .0
 
+  -- the stand-in is sound
+  pub stand-in-sound : soundStandIn s ≡ true
+  stand-in-sound = tests .1 .0
+
+  -- string 90 has eight codes, by its rules
+  pub string-in : (eqb (length (s .string)) 8 && soundString (s .string)) ≡ true
+  string-in = tests .1 .1
+
   -- the line ending has eight codes
   pub eight-codes : length (endingCodes s) ≡ 8
   unfolding endingCodes
-  eight-codes = eqb-true (length (s .string)) 8 (both (eqb (length (s .string)) 8) (soundString (s .string)) (tests .1) .0)
+  eight-codes = eqb-true (length (s .string)) 8 (both (eqb (length (s .string)) 8) (soundString (s .string)) string-in .0)
 
   -- by its rules
   pub ending-sound : soundString (endingCodes s) ≡ true
   unfolding endingCodes
-  ending-sound = both (eqb (length (s .string)) 8) (soundString (s .string)) (tests .1) .1
+  ending-sound = both (eqb (length (s .string)) 8) (soundString (s .string)) string-in .1
 
   -- the limit is in its range
   pub limit-in : between 10 80 (limit s) ≡ true

@@ -16,7 +16,7 @@ use Rattle.message.proofs.Sizes.{framed-length, framed-few}
 use Rattle.settings.specs.Names.{Outcome, Verb, Settings, Connection, Home, Version, Linked, Unlinked, Value, String, Factory, Nowhere, Row, Fault, Stored}
 use Rattle.settings.specs.Names.fault
 use Rattle.settings.specs.Table.{between, isSpeed, allCodes, early, padded, opens, soundString, soundSettings, options, row, isConnection, soundLink, soundConnection}
-use Rattle.settings.specs.Command.{faultOf, numberOf, obey, numbersAt, answering, reading, kept, outcome, answered, commanded}
+use Rattle.settings.specs.Command.{numberOf, obey, numbersAt, answering, reading, kept, outcome, answered, wrong, commanded}
 use Rattle.settings.specs.Options.{endingCodes}
 use Rattle.settings.specs.Laws.{answerOf, Sound, Sendable, Short}
 use Rattle.settings.proofs.Accept.{accepted}
@@ -142,13 +142,13 @@ module _ (s : Settings) (c : Connection) (h : Sound s c) (v : Verb) (count : ℕ
 
   answers-by : (P : Outcome → Type 0) → ((f : Fault) → P (outcome (kept s c) (refusing f))) → ((t : Stored) (ns : List ℕ) → Sendable ns → P (outcome t ns)) → P (commanded s c v count fields)
   unfolding commanded
-  answers-by P refuses sends = go (faultOf v (row (getD fields 0 0)) count fields) refl
+  answers-by P refuses sends = go (wrong s c v count fields) refl
     where
-      go : (f : Fault) → faultOf v (row (getD fields 0 0)) count fields ≡ f → P (answered f s c v (row (getD fields 0 0)) fields)
+      go : (f : Fault) → wrong s c v count fields ≡ f → P (answered f s c v (row (getD fields 0 0)) fields)
       go fault.Nothing e =
           let i = getD fields 0 0 in
-          let a = accepted v (row i) count fields e in
           let t = obey s c v (row i) (drop 2 fields) in
+          let a = accepted v (row i) count fields (t .settings) e in
           sends t (reading t (row i)) (read t i (obey-sound s c h v _ i fields l (defined v i (a .n) (a .takes)) a))
       go fault.Type e = refuses fault.Type
       go fault.Id e = refuses fault.Id

@@ -13,12 +13,12 @@ use Rattle.laws.proofs.Both.{both}
 use Rattle.settings.specs.Names.{Verb, Write, Read, Other, Settings, Connection, Home, Version, Linked, Unlinked, Value, String, Factory, Nowhere, Row, Takes, Count, Fault, Stored}
 use Rattle.settings.specs.Names.takes
 use Rattle.settings.specs.Names.fault
-use Rattle.settings.specs.Table.{between, inRange, options, row, isConnection, width, takesIf, takenBy, factory, allIn, soundString, soundSettings, soundLink, soundConnection}
-use Rattle.settings.specs.Command.{faultOf, kept, withValue, withString, store, obey, valuesAt, numbersAt, reading, outcome, answered, commanded}
+use Rattle.settings.specs.Table.{between, inRange, options, row, isConnection, width, takesIf, takenBy, factory, soundString, soundStandIn, soundSettings, soundLink, soundConnection}
+use Rattle.settings.specs.Command.{kept, withValue, withString, store, obey, valuesAt, numbersAt, reading, outcome, answered, wrong, commanded}
 use Rattle.settings.specs.Laws.{answerOf, readBy, Sound}
 use Rattle.settings.proofs.Accept.{Accepted, accepted, success}
 use Rattle.settings.proofs.Rows.{lowAt, highAt, fitsHome, found, row-fits}
-use Rattle.settings.proofs.Held.{length-in, set-in, set-get, values-in}
+use Rattle.settings.proofs.Held.{set-in, set-get, values-in, string-in}
 
 -- the answer of an outcome is the list that it was made of
 pub answer-outcome : (t : Stored) (ns : List ℕ) → answerOf (outcome t ns) ≡ ns
@@ -64,12 +64,12 @@ place-in i low high w r f =
     let b = both r _ f .1 in
     ltb-true i (length options) (both (ltb i (length options)) (leb high 255) (both (ltb i (length options) && leb high 255) _ b .0) .0)
 
-module _ (s : Settings) (c : Connection) (ps : List ℕ) (nine : length ps ≡ 9) (six : length (s .values) ≡ length options) where
+module _ (s : Settings) (c : Connection) (ps : List ℕ) (nine : length ps ≡ 9) (all : length (s .values) ≡ length options) where
   stored-values : (h : Home) (n : ℕ) (w r : Bool) → fitsHome h w r ≡ true → w ≡ true → valuesAt (store s c h n ps .settings) (store s c h n ps .connection) h ≡ take (width h) ps
   stored-values Version n w r f e = absurd (false≢true (rw e at f))
   stored-values (Linked last) n w r f e = sym (two ps nine)
   stored-values Unlinked n w r f e = refl
-  stored-values (Value i low high) n w r f e = rw (one ps nine, set-get (s .values) i (getD ps 0 0) (rw six (place-in i low high w r f)))
+  stored-values (Value i low high) n w r f e = rw (one ps nine, set-get (s .values) i (getD ps 0 0) (rw all (place-in i low high w r f)))
   stored-values String n w r f e = refl
   stored-values Factory n w r f e = refl
   stored-values Nowhere n w r f e = absurd (false≢true (rw e at f))
@@ -93,17 +93,17 @@ values-long n ps String l = length-take-le 8 ps (omega (arith, l))
 values-long n ps Factory l = refl
 values-long n ps Nowhere l = refl
 
-module _ (s : Settings) (c : Connection) (count : ℕ) (fields : List ℕ) (eleven : length fields ≡ 11) (six : length (s .values) ≡ length options) (ok : faultOf Write (row (getD fields 0 0)) count fields ≡ fault.Nothing) where
+module _ (s : Settings) (c : Connection) (count : ℕ) (fields : List ℕ) (eleven : length fields ≡ 11) (all : length (s .values) ≡ length options) (ok : wrong s c Write count fields ≡ fault.Nothing) where
   -- a write answers the id, the number of parameters and the parameters, as they were given
   pub written : answerOf (commanded s c Write count fields) ≡ getD fields 0 0 ∷ getD fields 1 0 ∷ take (getD fields 1 0) (drop 2 fields)
   written =
       let id = getD fields 0 0 in
       let r = row id in
-      let a = accepted Write r count fields ok in
+      let a = accepted Write r count fields _ ok in
       let t = takes-can (r .written) (width (r .home)) (a .n) (a .takes) in
       let l : length (drop 2 fields) ≡ 9 = rw (length-drop, eleven) in
       let f = found id (defined Write id (a .n) (a .takes)) in
-      let v = stored-values s c (drop 2 fields) l six (r .home) (r .number) (r .written) (r .read) (row-fits id) (t .0) in
+      let v = stored-values s c (drop 2 fields) l all (r .home) (r .number) (r .written) (r .read) (row-fits id) (t .0) in
       rw (success s c Write count fields ok, answer-outcome, own s c (r .home) r (drop 2 fields) (ap row f) refl, v, values-long 0 (drop 2 fields) (r .home) l, f, a .number, ← t .1)
 
 -- 1 reads the connection
@@ -122,14 +122,15 @@ read-by t Factory r e g = rw (g, e, g)
 read-by t Nowhere r e g = rw (g, e, g)
 
 -- a read that follows a write answers the same numbers
-pub read-back : (s : Settings) (c : Connection) (count : ℕ) (fields : List ℕ) (count′ : ℕ) (fields′ : List ℕ) → faultOf Write (row (getD fields 0 0)) count fields ≡ fault.Nothing → faultOf Read (row (getD fields′ 0 0)) count′ fields′ ≡ fault.Nothing → getD fields′ 0 0 ≡ readBy (row (getD fields 0 0)) → answerOf (commanded (commanded s c Write count fields .stored .settings) (commanded s c Write count fields .stored .connection) Read count′ fields′) ≡ answerOf (commanded s c Write count fields)
+pub read-back : (s : Settings) (c : Connection) (count : ℕ) (fields : List ℕ) (count′ : ℕ) (fields′ : List ℕ) → wrong s c Write count fields ≡ fault.Nothing → wrong (commanded s c Write count fields .stored .settings) (commanded s c Write count fields .stored .connection) Read count′ fields′ ≡ fault.Nothing → getD fields′ 0 0 ≡ readBy (row (getD fields 0 0)) → answerOf (commanded (commanded s c Write count fields .stored .settings) (commanded s c Write count fields .stored .connection) Read count′ fields′) ≡ answerOf (commanded s c Write count fields)
 read-back s c count fields count′ fields′ ok ok′ e =
     let id = getD fields 0 0 in
     let r = row id in
-    let a = accepted Write r count fields ok in
+    let a = accepted Write r count fields _ ok in
     let f = found id (defined Write id (a .n) (a .takes)) in
     let t = store s c (r .home) (r .number) (drop 2 fields) in
-    rw (success s c Write count fields ok, success (t .settings) (t .connection) Read count′ fields′ ok′, answer-outcome, answer-outcome, e, read-by t (r .home) r (ap row f) refl)
+    let passes : wrong (t .settings) (t .connection) Read count′ fields′ ≡ fault.Nothing = rw (success s c Write count fields ok) at ok′ in
+    rw (success s c Write count fields ok, success (t .settings) (t .connection) Read count′ fields′ passes, answer-outcome, answer-outcome, e, read-by t (r .home) r (ap row f) refl)
 
 -- and whatever can be written, 250 aside, can be read
 pub readable : (id : ℕ) → row id .written ≡ true → (row id .home ≡ Factory → ⊥) → row (readBy (row id)) .read ≡ true
@@ -151,11 +152,11 @@ readable id w h = go (row id .home) refl
     go Nowhere e = absurd (false≢true (fits Nowhere e))
 
 -- by its id and 0
-pub read-passes : (fields : List ℕ) → row (getD fields 0 0) .read ≡ true → getD fields 1 0 ≡ 0 → faultOf Read (row (getD fields 0 0)) 2 fields ≡ fault.Nothing
-read-passes fields t n = rw (t, n)
+pub read-passes : (s : Settings) (c : Connection) (fields : List ℕ) → row (getD fields 0 0) .read ≡ true → getD fields 1 0 ≡ 0 → wrong s c Read 2 fields ≡ fault.Nothing
+read-passes s c fields t n = rw (t, n)
 
 -- 250 gives the factory settings and keeps the connection
-pub reset : (s : Settings) (c : Connection) (count : ℕ) (fields : List ℕ) → faultOf Write (row (getD fields 0 0)) count fields ≡ fault.Nothing → getD fields 0 0 ≡ 250 → commanded s c Write count fields .stored ≡ kept factory c
+pub reset : (s : Settings) (c : Connection) (count : ℕ) (fields : List ℕ) → wrong s c Write count fields ≡ fault.Nothing → getD fields 0 0 ≡ 250 → commanded s c Write count fields .stored ≡ kept factory c
 unfolding row
 reset s c count fields ok e = rw (success s c Write count fields ok, e)
 
@@ -163,50 +164,51 @@ reset s c count fields ok e = rw (success s c Write count fields ok, e)
 
 -- the factory settings are
 pub factory-sound : soundSettings factory ≡ true
-unfolding soundSettings soundString
+unfolding soundSettings soundStandIn soundString
 factory-sound = refl
 
 module _ (s : Settings) (c : Connection) (h : Sound s c) where
   -- a value in range
-  set-sound : (i low high n : ℕ) (w r : Bool) → fitsHome (Value i low high) w r ≡ true → between low high n ≡ true → soundSettings (withValue s i n) ≡ true
+  set-sound : (i low high n : ℕ) (w r : Bool) → fitsHome (Value i low high) w r ≡ true → between low high n ≡ true → soundStandIn (withValue s i n) ≡ true → soundSettings (withValue s i n) ≡ true
   unfolding soundSettings
-  set-sound i low high n w r f b =
+  set-sound i low high n w r f b d =
       let at = both (eqb low (lowAt options i)) (eqb high (highAt options i)) (both (ltb i (length options) && leb high 255) _ (both r _ f .1) .1) in
       let p : between (lowAt options i) (highAt options i) n ≡ true = rw (← eqb-true low (lowAt options i) (at .0), ← eqb-true high (highAt options i) (at .1)) b in
-      let q = both (allIn options (s .values)) (eqb (length (s .string)) 8 && soundString (s .string)) (h .settings) in
-      rw (set-in options (s .values) i n (q .0) p, q .1)
+      rw (set-in options (s .values) i n (values-in s (h .settings)) p, d, string-in s (h .settings))
 
-  string-sound : (ps : List ℕ) → length ps ≡ 9 → soundString (take 8 ps) ≡ true → soundSettings (withString s (take 8 ps)) ≡ true
+  string-sound : (ps : List ℕ) → length ps ≡ 9 → soundString (take 8 ps) ≡ true → soundStandIn (withString s (take 8 ps)) ≡ true → soundSettings (withString s (take 8 ps)) ≡ true
   unfolding soundSettings
-  string-sound ps l r = rw (both (allIn options (s .values)) _ (h .settings) .0, length-take-le 8 ps (omega (arith, l)), r)
+  string-sound ps l r d = rw (values-in s (h .settings), d, length-take-le 8 ps (omega (arith, l)), r)
 
   link-sound : (r : Row) (g : Home) (ps : List ℕ) → row (r .number) ≡ r → r .home ≡ g → soundLink g (store s c g (r .number) ps .connection .port) (store s c g (r .number) ps .connection .speed) ≡ true → store s c g (r .number) ps .connection .mode ≡ r .number → soundConnection (store s c g (r .number) ps .connection) ≡ true
   unfolding soundConnection
   link-sound r g ps e f p q = rw (q, e, f) p
 
-  store-sound : (r : Row) (g : Home) (ps : List ℕ) → row (r .number) ≡ r → r .home ≡ g → fitsHome g (r .written) (r .read) ≡ true → length ps ≡ 9 → inRange g ps ≡ true → Sound (store s c g (r .number) ps .settings) (store s c g (r .number) ps .connection)
-  store-sound r Version ps e f t l i = h
-  store-sound r (Linked last) ps e f t l i = record { settings = h .settings; connection = link-sound r (Linked last) ps e f i refl }
-  store-sound r Unlinked ps e f t l i = record { settings = h .settings; connection = link-sound r Unlinked ps e f refl refl }
-  store-sound r (Value p low high) ps e f t l i = record { settings = set-sound p low high (getD ps 0 0) (r .written) (r .read) t i; connection = h .connection }
-  store-sound r String ps e f t l i = record { settings = string-sound ps l i; connection = h .connection }
-  store-sound r Factory ps e f t l i = record { settings = factory-sound; connection = h .connection }
-  store-sound r Nowhere ps e f t l i = h
+  store-sound : (r : Row) (g : Home) (ps : List ℕ) → row (r .number) ≡ r → r .home ≡ g → fitsHome g (r .written) (r .read) ≡ true → length ps ≡ 9 → inRange g ps ≡ true → soundStandIn (store s c g (r .number) ps .settings) ≡ true → Sound (store s c g (r .number) ps .settings) (store s c g (r .number) ps .connection)
+  store-sound r Version ps e f t l i d = h
+  store-sound r (Linked last) ps e f t l i d = record { settings = h .settings; connection = link-sound r (Linked last) ps e f i refl }
+  store-sound r Unlinked ps e f t l i d = record { settings = h .settings; connection = link-sound r Unlinked ps e f refl refl }
+  store-sound r (Value p low high) ps e f t l i d = record { settings = set-sound p low high (getD ps 0 0) (r .written) (r .read) t i d; connection = h .connection }
+  store-sound r String ps e f t l i d = record { settings = string-sound ps l i d; connection = h .connection }
+  store-sound r Factory ps e f t l i d = record { settings = factory-sound; connection = h .connection }
+  store-sound r Nowhere ps e f t l i d = h
 
   -- what a command without error leaves
-  pub obey-sound : (v : Verb) (t : Takes) (id : ℕ) (fields : List ℕ) → length fields ≡ 11 → (row id .home ≡ Nowhere → ⊥) → Accepted t v (row id) fields → Sound (obey s c v (row id) (drop 2 fields) .settings) (obey s c v (row id) (drop 2 fields) .connection)
-  obey-sound Write t id fields l d a = store-sound (row id) (row id .home) (drop 2 fields) (ap row (found id d)) refl (row-fits id) (rw (length-drop, l)) (a .inside)
+  pub obey-sound : (v : Verb) (t : Takes) (id : ℕ) (fields : List ℕ) → length fields ≡ 11 → (row id .home ≡ Nowhere → ⊥) → Accepted t v (row id) fields (obey s c v (row id) (drop 2 fields) .settings) → Sound (obey s c v (row id) (drop 2 fields) .settings) (obey s c v (row id) (drop 2 fields) .connection)
+  obey-sound Write t id fields l d a =
+      let b = both (inRange (row id .home) (drop 2 fields)) _ (a .inside) in
+      store-sound (row id) (row id .home) (drop 2 fields) (ap row (found id d)) refl (row-fits id) (rw (length-drop, l)) (b .0) (b .1)
   obey-sound Read t id fields l d a = h
   obey-sound Other t id fields l d a = h
 
   -- under any command
   pub stays : (v : Verb) (count : ℕ) (fields : List ℕ) → length fields ≡ 11 → Sound (commanded s c v count fields .stored .settings) (commanded s c v count fields .stored .connection)
   unfolding commanded
-  stays v count fields l = go (faultOf v (row (getD fields 0 0)) count fields) refl
+  stays v count fields l = go (wrong s c v count fields) refl
     where
-      go : (f : Fault) → faultOf v (row (getD fields 0 0)) count fields ≡ f → Sound (answered f s c v (row (getD fields 0 0)) fields .stored .settings) (answered f s c v (row (getD fields 0 0)) fields .stored .connection)
+      go : (f : Fault) → wrong s c v count fields ≡ f → Sound (answered f s c v (row (getD fields 0 0)) fields .stored .settings) (answered f s c v (row (getD fields 0 0)) fields .stored .connection)
       go fault.Nothing e =
-          let a = accepted v (row (getD fields 0 0)) count fields e in
+          let a = accepted v (row (getD fields 0 0)) count fields _ e in
           obey-sound v _ (getD fields 0 0) fields l (defined v (getD fields 0 0) (a .n) (a .takes)) a
       go fault.Type e = h
       go fault.Id e = h
@@ -237,7 +239,7 @@ module _ (s : Settings) (c : Connection) where
   -- no other command touches the connection
   pub commanded-keeps : (v : Verb) (count : ℕ) (fields : List ℕ) → Keeps c (commanded s c v count fields .stored)
   unfolding commanded
-  commanded-keeps v count fields = go (faultOf v (row (getD fields 0 0)) count fields)
+  commanded-keeps v count fields = go (wrong s c v count fields)
     where
       go : (f : Fault) → Keeps c (answered f s c v (row (getD fields 0 0)) fields .stored)
       go fault.Nothing e = obey-keeps v (row (getD fields 0 0)) (drop 2 fields) e

@@ -1,20 +1,10 @@
 -- The settings by name.
-use Prim.Native.Nat.{ℕ, suc}
-use mathlib.Core.Bool.{Bool, cond}
-use mathlib.Core.List.{List, [], _∷_}
+use Prim.Native.Nat.{ℕ}
+use mathlib.Core.Bool.{Bool}
+use mathlib.Core.List.{List}
 use lib.Dec.{eqb}
-use lib.ListN.{getD}
 use Rattle.settings.specs.Names.{Settings}
-use Rattle.settings.specs.Table.{Option, options}
-
--- which option has this id
-abbrev pub optionPlace : List Option → ℕ → ℕ
-optionPlace [] n = 0
-optionPlace (x ∷ xs) n = cond (eqb n (x .number)) 0 (suc (optionPlace xs n))
-
--- the value of an option
-abbrev pub valueOf : Settings → ℕ → ℕ
-valueOf o n = getD (o .values) (optionPlace options n) 0
+use Rattle.settings.specs.Table.{valueOf}
 
 -- 1 is on
 abbrev pub isOn : ℕ → Bool
@@ -43,6 +33,10 @@ filter o = isOn (valueOf o 72)
 -- option 74: SI/SO reports
 unfoldable pub reports : Settings → Bool
 reports o = isOn (valueOf o 74)
+
+-- option 77: the stand-in for text bytes without a code, 0 where there is none
+unfoldable pub standIn : Settings → ℕ
+standIn o = valueOf o 77
 
 -- string 90: the line ending
 unfoldable pub endingCodes : Settings → List ℕ

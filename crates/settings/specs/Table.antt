@@ -4,7 +4,8 @@ use mathlib.Core.Bool.{Bool, true, false, cond, _&&_, _||_}
 use mathlib.Core.List.{List, [], _∷_}
 use lib.Dec.{eqb, leb}
 use lib.ListN.{length, getD, take}
-use Rattle.settings.specs.Names.{Verb, Write, Read, Other, Settings, Connection, Home, Version, Linked, Unlinked, Value, String, Factory, Nowhere, Row, Takes, Count}
+use Rattle.code.specs.Convert.{conversion}
+use Rattle.settings.specs.Names.{Conversion, Nothing, Free, Cased, Verb, Write, Read, Other, Settings, Connection, Home, Version, Linked, Unlinked, Value, String, Factory, Nowhere, Row, Takes, Count}
 use Rattle.settings.specs.Names.takes
 
 -- Ranges of the parameters.
@@ -77,7 +78,17 @@ options =
     ∷ option 71 0 1 0
     ∷ option 72 0 1 0
     ∷ option 74 0 1 0
+    ∷ option 77 0 126 0
     ∷ []
+
+-- which option has this id
+abbrev pub optionPlace : List Option → ℕ → ℕ
+optionPlace [] n = 0
+optionPlace (x ∷ xs) n = cond (eqb n (x .number)) 0 (suc (optionPlace xs n))
+
+-- the value of an option
+abbrev pub valueOf : Settings → ℕ → ℕ
+valueOf o n = getD (o .values) (optionPlace options n) 0
 
 -- a line of the others
 abbrev is : ℕ → Home → Bool → Bool → Row
@@ -164,9 +175,19 @@ allIn [] (v ∷ vs) = false
 allIn (x ∷ xs) [] = false
 allIn (x ∷ xs) (v ∷ vs) = between (x .low) (x .high) v && allIn xs vs
 
+-- there is a code
+abbrev pub hasCode : Conversion → Bool
+hasCode Nothing = false
+hasCode (Free c) = true
+hasCode (Cased case c) = true
+
+-- option 77 is 0, or from 33 on and has a code; it ends with its row, at 126
+unfoldable pub soundStandIn : Settings → Bool
+soundStandIn s = eqb (valueOf s 77) 0 || (leb 33 (valueOf s 77) && hasCode (conversion (valueOf s 77)))
+
 -- and string 90 with its eight codes, by its rules
 unfoldable pub soundSettings : Settings → Bool
-soundSettings s = allIn options (s .values) && (eqb (length (s .string)) 8 && soundString (s .string))
+soundSettings s = allIn options (s .values) && (soundStandIn s && (eqb (length (s .string)) 8 && soundString (s .string)))
 
 -- port and speed are in the mode's range, and 0 where it has none
 abbrev pub soundLink : Home → ℕ → ℕ → Bool

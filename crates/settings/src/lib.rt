@@ -2,7 +2,7 @@
 ghost use mathlib.Core.Path.{_≡_};
 ghost use mathlib.Core.Bool.{_&&_};
 ghost use Rattle.settings.specs.Table.{factory, soundSettings, soundConnection};
-ghost use Rattle.settings.specs.Command.{succeeded, refused, commanded};
+ghost use Rattle.settings.specs.Command.{refused, commanded};
 use answer::read_out;
 use answer::two;
 use command::Verb;
@@ -25,7 +25,7 @@ mod table;
 
 // The settings: the value of each option in the table's order, and string 90, the line ending.
 pub struct Settings {
-    pub values: [u8; 6],
+    pub values: [u8; 7],
     pub string: [u8; 8],
 }
 
@@ -91,7 +91,7 @@ pub fn factory() -> Settings
     ensures { λ r. ⌜ r ≡ factory ⌝ }
 {
     Settings {
-        values: [0, 72, 0, 0, 0, 0],
+        values: [0, 72, 0, 0, 0, 0, 0],
         string: [8, 8, 2, 31, 31, 0, 0, 0],
     }
 }
@@ -110,22 +110,17 @@ fn refuse(s: Settings, c: Connection, id: u8, f: Fault) -> Outcome
     two(keep(s, c), 255, id, number_of(f))
 }
 
-// A command without error.
-fn succeed(s: Settings, c: Connection, v: Verb, r: Row, fields: [u8; 11]) -> Outcome
-    ensures { λ q. ⌜ q ≡ succeeded s c v r fields ⌝ }
-{
-    read_out(obey(s, c, v, r, parameters(fields)), r)
-}
-
 // What a finished command of `count` fields does and answers.
 pub fn run(s: Settings, c: Connection, v: Verb, count: u8, fields: [u8; 11]) -> Outcome
     ensures { λ r. ⌜ r ≡ commanded s c v count fields ⌝ }
 {
     let id = fields[0];
     let r = row(id);
-    let f = fault_of(v, r, count, fields);
+    let stored = obey(s, c, v, r, parameters(fields));
+    let next = stored.settings;
+    let f = fault_of(v, r, count, fields, next);
     if let Fault::Nothing = f {
-        return succeed(s, c, v, r, fields);
+        return read_out(stored, r);
     }
     refuse(s, c, id, f)
 }

@@ -1,6 +1,6 @@
 // The settings by name.
 ghost use mathlib.Core.Path.{_≡_};
-ghost use Rattle.settings.specs.Options.{endings, limit, onspace, onreturn, filter, reports, endingCodes};
+ghost use Rattle.settings.specs.Options.{endings, limit, onspace, onreturn, filter, reports, standIn, endingCodes};
 use crate::Settings;
 
 impl Settings {
@@ -50,6 +50,14 @@ impl Settings {
     {
         let values = self.values;
         values[5] == 1
+    }
+
+    // Option 77: the stand-in for text bytes without a code, 0 where there is none.
+    pub fn stand_in(self) -> u8
+        ensures { λ r. ⌜ r ≡ standIn self ⌝ }
+    {
+        let values = self.values;
+        values[6]
     }
 
     // String 90: the line ending.

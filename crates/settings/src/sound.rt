@@ -2,7 +2,8 @@
 ghost use mathlib.Core.Path.{_≡_};
 ghost use mathlib.Core.List.{_∷_};
 ghost use lib.ListN.{replicate};
-ghost use Rattle.settings.specs.Table.{inRange, row, options, allIn, soundSettings, soundLink, soundConnection};
+ghost use Rattle.code.specs.Convert.{conversion};
+ghost use Rattle.settings.specs.Table.{inRange, row, options, allIn, hasCode, soundStandIn, soundSettings, soundLink, soundConnection};
 use crate::Connection;
 use crate::Home;
 use crate::Settings;
@@ -10,6 +11,7 @@ use crate::string::sound_string;
 use crate::table::in_range;
 use crate::table::is_link;
 use crate::table::row;
+use code::Conversion;
 
 // Whether the value of an option is in its range.
 fn option_sound(id: u8, value: u8) -> bool
@@ -28,7 +30,32 @@ fn values_sound(s: Settings) -> bool
     let lines = option_sound(49, v[0]) & option_sound(50, v[1]);
     let unshifts = option_sound(70, v[2]) & option_sound(71, v[3]);
     let shifts = option_sound(72, v[4]) & option_sound(74, v[5]);
-    lines & (unshifts & shifts)
+    lines & (unshifts & (shifts & option_sound(77, v[6])))
+}
+
+// Whether a byte has a code.
+fn has_code(b: u8) -> bool
+    ensures { λ r. ⌜ r ≡ hasCode (conversion b) ⌝ }
+{
+    match convert::convert(b) {
+        Conversion::Nothing => false,
+        Conversion::Free(_) => true,
+        Conversion::Cased(_, _) => true,
+    }
+}
+
+// Whether the stand-in is 0, or from 33 on and has a code.
+pub fn stand_in_sound(s: Settings) -> bool
+    ensures { λ r. ⌜ r ≡ soundStandIn s ⌝ }
+{
+    let b = s.stand_in();
+    if b == 0 {
+        return true;
+    }
+    if b < 33 {
+        return false;
+    }
+    has_code(b)
 }
 
 // Whether the settings are in the table's ranges.
@@ -36,7 +63,7 @@ pub fn settings_sound(s: Settings) -> bool
     ensures { λ r. ⌜ r ≡ soundSettings s ⌝ }
 {
     let string = s.string;
-    values_sound(s) & sound_string(string)
+    values_sound(s) & (stand_in_sound(s) & sound_string(string))
 }
 
 // Whether port and speed are in a mode's range.

@@ -46,6 +46,7 @@ pub fn row(id: u8) -> Row
         71 => option(71, 3, 0, 1),
         72 => option(72, 4, 0, 1),
         74 => option(74, 5, 0, 1),
+        77 => option(77, 6, 0, 126),
         90 => is(90, Home::String, true, true),
         250 => is(250, Home::Factory, true, false),
         _ => is(0, Home::Nowhere, false, false),

@@ -16,7 +16,7 @@ returns c = search needs
 returns-2 : tie.Need-returns-2
 returns-2 c =
     let v = c .before .before .args .s .values in
-    let n : length v ≡ 6 = search needs in
+    let n : length v ≡ 7 = search needs in
     sym (List·getD-eq-default v 0 (omega arith))
 
 pub value-at-spec : {M : Type 1} → statement M

@@ -39,6 +39,9 @@ option-requires-5 c κs = search needs
 option-requires-6 : tie.Need-option-requires-6
 option-requires-6 c κs = search needs
 
+option-requires-7 : tie.Need-option-requires-7
+option-requires-7 c κs = search needs
+
 is-requires-6 : tie.Need-is-requires-6
 is-requires-6 c κs = search needs
 
@@ -94,17 +97,21 @@ returns-11 c = simp (c .before .match .keys11, c .option6 .ensures)
 
 returns-12 : tie.Need-returns-12
 unfolding row
-returns-12 c = simp (c .before .match .keys12, c .is6 .ensures)
+returns-12 c = simp (c .before .match .keys12, c .option7 .ensures)
 
 returns-13 : tie.Need-returns-13
 unfolding row
-returns-13 c = simp (c .before .match .keys13, c .is7 .ensures)
+returns-13 c = simp (c .before .match .keys13, c .is6 .ensures)
 
 returns-14 : tie.Need-returns-14
 unfolding row
-returns-14 c =
+returns-14 c = simp (c .before .match .keys14, c .is7 .ensures)
+
+returns-15 : tie.Need-returns-15
+unfolding row
+returns-15 c =
     let r = c .before .match .rest in
-    simp (ne-eqb _ _ (r .0 .0 .0 .0 .0 .0 .0 .0 .0 .0 .0 .0 .1), ne-eqb _ _ (r .0 .0 .0 .0 .0 .0 .0 .0 .0 .0 .0 .1), ne-eqb _ _ (r .0 .0 .0 .0 .0 .0 .0 .0 .0 .0 .1), ne-eqb _ _ (r .0 .0 .0 .0 .0 .0 .0 .0 .0 .1), ne-eqb _ _ (r .0 .0 .0 .0 .0 .0 .0 .0 .1), ne-eqb _ _ (r .0 .0 .0 .0 .0 .0 .0 .1), ne-eqb _ _ (r .0 .0 .0 .0 .0 .0 .1), ne-eqb _ _ (r .0 .0 .0 .0 .0 .1), ne-eqb _ _ (r .0 .0 .0 .0 .1), ne-eqb _ _ (r .0 .0 .0 .1), ne-eqb _ _ (r .0 .0 .1), ne-eqb _ _ (r .0 .1), ne-eqb _ _ (r .1), c .is8 .ensures)
+    simp (ne-eqb _ _ (r .0 .0 .0 .0 .0 .0 .0 .0 .0 .0 .0 .0 .0 .1), ne-eqb _ _ (r .0 .0 .0 .0 .0 .0 .0 .0 .0 .0 .0 .0 .1), ne-eqb _ _ (r .0 .0 .0 .0 .0 .0 .0 .0 .0 .0 .0 .1), ne-eqb _ _ (r .0 .0 .0 .0 .0 .0 .0 .0 .0 .0 .1), ne-eqb _ _ (r .0 .0 .0 .0 .0 .0 .0 .0 .0 .1), ne-eqb _ _ (r .0 .0 .0 .0 .0 .0 .0 .0 .1), ne-eqb _ _ (r .0 .0 .0 .0 .0 .0 .0 .1), ne-eqb _ _ (r .0 .0 .0 .0 .0 .0 .1), ne-eqb _ _ (r .0 .0 .0 .0 .0 .1), ne-eqb _ _ (r .0 .0 .0 .0 .1), ne-eqb _ _ (r .0 .0 .0 .1), ne-eqb _ _ (r .0 .0 .1), ne-eqb _ _ (r .0 .1), ne-eqb _ _ (r .1), c .is8 .ensures)
 
 pub row-spec : {M : Type 1} → statement M
 row-spec =
@@ -121,6 +128,7 @@ row-spec =
     option-requires-4
     option-requires-5
     option-requires-6
+    option-requires-7
     is-requires-6
     is-requires-7
     is-requires-8
@@ -137,4 +145,5 @@ row-spec =
     returns-11
     returns-12
     returns-13
-    returns-14)
+    returns-14
+    returns-15)
