@@ -60,9 +60,9 @@ wanted-few (Free c) = omega arith
 wanted-few (Cased case c) = omega arith
 
 -- and a text no more than it has bytes
-pub text-few : (bs : List ℕ) → length (wantedText bs) ≤ length bs
-text-few [] = omega arith
-text-few (b ∷ bs) = rw (length-append (wantedBy Text b) (wantedText bs)) (omega (arith, wanted-few (converted Text b), text-few bs))
+pub text-few : (o : Settings) (bs : List ℕ) → length (wantedText o bs) ≤ length bs
+text-few o [] = omega arith
+text-few o (b ∷ bs) = rw (length-append (wantedBy o Text b) (wantedText o bs)) (omega (arith, wanted-few (converted o Text b), text-few o bs))
 
 module _ (o : Settings) (eight : length (endingCodes o) ≡ 8) where
   ending-most : (r : Record) (b : Bool) → length (ending o r b) ≤ 16

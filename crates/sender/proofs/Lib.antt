@@ -5,3 +5,4 @@ pub mod Few
 mod Endings
 mod OneItem
 pub mod Sending
+pub mod Spoken

@@ -65,7 +65,7 @@ module _ (o : Settings) (start : Sender) (first : Asks) (until : Until) (bytes o
     module _ (lt : n < length bytes) where
       -- the next byte's codes
       abbrev cs : List ℕ
-      cs = items o s (wantedBy asks (getD bytes n 0))
+      cs = items o s (wantedBy o asks (getD bytes n 0))
 
       pub no-room : stopsAt until (getD bytes n 0) ≡ false → leb most (length now - k) ≡ false → SendsRun (runOf o start first until bytes (length old)) old now (record { sender = s; asks = asks; taken = n; count = k })
       no-room z h = stops (rw (drop-cons bytes n 0 lt, z, ← e .places .same-length, h))
@@ -75,11 +75,11 @@ module _ (o : Settings) (start : Sender) (first : Asks) (until : Until) (bytes o
 
       -- one byte more
       pub sends-on : stopsAt until (getD bytes n 0) ≡ false → leb most (length now - k) ≡ true → (ys : List ℕ) (x : Item)
-          → PutsItems o s (wantedBy asks (getD bytes n 0)) (midOf k (length now - k) now) ys x
+          → PutsItems o s (wantedBy o asks (getD bytes n 0)) (midOf k (length now - k) now) ys x
           → Sending o start first until bytes old (x .sender) (asksNext o asks (getD bytes n 0)) (n + 1) (putMid k (length now - k) now ys) (k + x .count)
       sends-on z h ys x f =
           let b = getD bytes n 0 in
-          let ws = wantedBy asks b in
+          let ws = wantedBy o asks b in
           let a = length old - k in
           let u : leb most a ≡ true = rw (e .places .same-length) at h in
           let v : a - length cs ≡ length old - (k + x .count) = omega (arith, f .places .count) in
@@ -97,22 +97,22 @@ run-within o s asks until [] room = omega arith
 run-within o s asks until (b ∷ bs) room = go (stopsAt until b) (leb most room) (run-within o _ _ until bs _)
   where
     go : (halts fits : Bool)
-        → (let ws = wantedBy asks b in runOf o (afterItems o s ws) (asksNext o asks b) until bs (room - length (items o s ws)) .taken ≤ length bs)
-        → (let ws = wantedBy asks b in cond halts (noRun s asks) (cond fits (runOn (items o s ws) (runOf o (afterItems o s ws) (asksNext o asks b) until bs (room - length (items o s ws)))) (noRun s asks)) .taken) ≤ length (b ∷ bs)
+        → (let ws = wantedBy o asks b in runOf o (afterItems o s ws) (asksNext o asks b) until bs (room - length (items o s ws)) .taken ≤ length bs)
+        → (let ws = wantedBy o asks b in cond halts (noRun s asks) (cond fits (runOn (items o s ws) (runOf o (afterItems o s ws) (asksNext o asks b) until bs (room - length (items o s ws)))) (noRun s asks)) .taken) ≤ length (b ∷ bs)
     go true fits h = omega arith
     go false true h = omega (arith, h)
     go false false h = omega arith
 
 -- where each byte's most has room, all of a text goes out
 pub text-run : (o : Settings) → length (endingCodes o) ≡ 8 → (s : Sender) (bs : List ℕ) (room : ℕ) → most * length bs ≤ room
-    → runOf o s Text Never bs room ≡ record { sender = afterItems o s (wantedText bs); asks = Text; taken = length bs; codes = items o s (wantedText bs) }
+    → runOf o s Text Never bs room ≡ record { sender = afterItems o s (wantedText o bs); asks = Text; taken = length bs; codes = items o s (wantedText o bs) }
 text-run o eight s [] room h = refl
 text-run o eight s (b ∷ bs) room h =
-    let ws = wantedBy Text b in
-    let n = byte-most o eight s (converted Text b) in
+    let ws = wantedBy o Text b in
+    let n = byte-most o eight s (converted o Text b) in
     let u : leb most room ≡ true = le-leb most room (omega (arith, h)) in
     let v : most * length bs ≤ room - length (items o s ws) = omega (arith, h, n) in
-    rw (u, text-run o eight (afterItems o s ws) bs (room - length (items o s ws)) v, items-append o s ws (wantedText bs), after-append o s ws (wantedText bs))
+    rw (u, text-run o eight (afterItems o s ws) bs (room - length (items o s ws)) v, items-append o s ws (wantedText o bs), after-append o s ws (wantedText o bs))
 
 -- no bytes, no codes
 pub run-none : (o : Settings) (s : Sender) (asks : Asks) (until : Until) (bs : List ℕ) (room : ℕ) → runOf o s asks until bs room .taken ≡ 0 → runOf o s asks until bs room .codes ≡ []
@@ -120,7 +120,7 @@ run-none o s asks until [] room e = refl
 run-none o s asks until (b ∷ bs) room e = go (stopsAt until b) (leb most room) e
   where
     go : (halts fits : Bool)
-        → let ws = wantedBy asks b in
+        → let ws = wantedBy o asks b in
         let d = cond halts (noRun s asks) (cond fits (runOn (items o s ws) (runOf o (afterItems o s ws) (asksNext o asks b) until bs (room - length (items o s ws)))) (noRun s asks)) in d .taken ≡ 0 → d .codes ≡ []
     go true fits e = refl
     go false true e = absurd (omega (arith, e))

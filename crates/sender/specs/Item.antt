@@ -2,9 +2,10 @@
 use Prim.Native.Nat.{ℕ}
 use mathlib.Core.Bool.{Bool, true, false, cond, _&&_}
 use mathlib.Core.List.{List, [], _∷_, _++_}
+use lib.Dec.{eqb}
 use Rattle.code.specs.Kinds.{kindOf}
 use Rattle.code.specs.Convert.{conversion}
-use Rattle.settings.specs.Options.{filter}
+use Rattle.settings.specs.Options.{filter, standIn}
 use Rattle.sender.specs.Names.{Case, Letters, Kind, Still, Space, Return, Shift, Char, Conversion, Nothing, Free, Cased, Settings, Record, Last, Wanted, Sender, Asks, Text, Codes}
 use Rattle.sender.specs.Names.last
 use Rattle.sender.specs.Record.{unknown, notes}
@@ -59,16 +60,30 @@ wantedOf Nothing = []
 wantedOf (Free c) = wanted Letters c ∷ []
 wantedOf (Cased case c) = wanted case c ∷ []
 
--- what a byte stands for: text by the conversion, a TU code in the incoming reading case
-abbrev pub converted : Asks → ℕ → Conversion
-converted Text b = conversion b
-converted (Codes case) c = Cased case c
+-- the stand-in's conversion, nothing while option 77 is 0
+abbrev pub standing : Settings → Conversion
+standing o = cond (eqb (standIn o) 0) Nothing (conversion (standIn o))
+
+-- a conversion, or where that is nothing the other
+abbrev pub orElse : Conversion → Conversion → Conversion
+orElse Nothing other = other
+orElse (Free c) other = Free c
+orElse (Cased case c) other = Cased case c
+
+-- what a byte of text is on the line: its own code, or where it has none the stand-in's
+abbrev pub spoken : Settings → ℕ → Conversion
+spoken o b = orElse (conversion b) (standing o)
+
+-- what a byte stands for: text by its code or the stand-in's, a TU code in the incoming reading case
+abbrev pub converted : Settings → Asks → ℕ → Conversion
+converted o Text b = spoken o b
+converted o (Codes case) c = Cased case c
 
 -- what a byte asks for
-abbrev pub wantedBy : Asks → ℕ → List Wanted
-wantedBy asks b = wantedOf (converted asks b)
+abbrev pub wantedBy : Settings → Asks → ℕ → List Wanted
+wantedBy o asks b = wantedOf (converted o asks b)
 
 -- what a text asks for
-abbrev pub wantedText : List ℕ → List Wanted
-wantedText [] = []
-wantedText (b ∷ bs) = wantedBy Text b ++ wantedText bs
+abbrev pub wantedText : Settings → List ℕ → List Wanted
+wantedText o [] = []
+wantedText o (b ∷ bs) = wantedBy o Text b ++ wantedText o bs

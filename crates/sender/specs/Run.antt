@@ -73,7 +73,7 @@ most = 18
 abbrev pub runOf : Settings → Sender → Asks → Until → List ℕ → ℕ → Run
 runOf o s asks until [] room = noRun s asks
 runOf o s asks until (b ∷ bs) room =
-    let ws = wantedBy asks b in
+    let ws = wantedBy o asks b in
     cond (stopsAt until b) (noRun s asks)
     (cond (leb most room) (runOn (items o s ws) (runOf o (afterItems o s ws) (asksNext o asks b) until bs (room - length (items o s ws)))) (noRun s asks))
 

@@ -44,7 +44,7 @@ pub struct Sender {
     pub last: Last,
 }
 
-// How the bytes of a stream ask for items: host text by the conversion, TU codes in the incoming reading case.
+// How the bytes of a stream ask for items: host text by its code or the stand-in's, TU codes in the incoming reading case.
 pub enum Asks {
     Text,
     Codes(Case),

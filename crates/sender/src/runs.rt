@@ -5,7 +5,7 @@ ghost use lib.Dec.{leb};
 ghost use lib.ListN.{length};
 ghost use Rattle.convert.specs.Entry.{Tabled};
 ghost use Rattle.settings.specs.Options.{endingCodes};
-ghost use Rattle.sender.specs.Item.{items, wantedOf, converted};
+ghost use Rattle.sender.specs.Item.{items, wantedOf, standing, orElse, converted};
 ghost use Rattle.sender.specs.Run.{isNone, wantedAs, asksNext, caseAsked, stopsAt, PutsItems, most, runOf, SendsRun};
 use crate::Asks;
 use crate::Item;
@@ -41,13 +41,36 @@ pub fn case_asked(asks: Asks) -> Case
     }
 }
 
-// What a byte stands for: text by the table lent, a TU code in the incoming reading case.
-fn convert_as(asks: Asks, table: &[u8], b: u8) -> Conversion
+// The stand-in's conversion by the table lent, nothing while option 77 is 0.
+fn standing(o: Settings, table: &[u8]) -> Conversion
     requires { ⌜ Tabled (now table) ⌝ }
-    ensures { λ r. ⌜ r ≡ converted asks b ⌝ }
+    ensures { λ r. ⌜ r ≡ standing o ⌝ }
+{
+    let b = o.stand_in();
+    if b == 0 {
+        return Conversion::Nothing;
+    }
+    convert::look_up(table, b)
+}
+
+// A conversion, or where that is nothing the other.
+fn or_else(x: Conversion, other: Conversion) -> Conversion
+    ensures { λ r. ⌜ r ≡ orElse x other ⌝ }
+{
+    match x {
+        Conversion::Nothing => other,
+        Conversion::Free(_) => x,
+        Conversion::Cased(_, _) => x,
+    }
+}
+
+// What a byte stands for: text by the table lent or as the stand-in, a TU code in the incoming reading case.
+fn convert_as(o: Settings, asks: Asks, table: &[u8], other: Conversion, b: u8) -> Conversion
+    requires { ⌜ Tabled (now table) × (other ≡ standing o) ⌝ }
+    ensures { λ r. ⌜ r ≡ converted o asks b ⌝ }
 {
     match asks {
-        Asks::Text => convert::look_up(table, b),
+        Asks::Text => or_else(convert::look_up(table, b), other),
         Asks::Codes(case) => Conversion::Cased(case, b),
     }
 }
@@ -145,6 +168,7 @@ pub fn send(
         ⌝ }
 {
     let table = convert::table();
+    let other = standing(o, &table);
     let mut sender = start;
     let mut asks = first;
     let mut taken = 0;
@@ -157,7 +181,7 @@ pub fn send(
         if !has_room(o, out.len() - count) {
             return sent(sender, asks, taken, count);
         }
-        let x = convert_as(asks, &table, b);
+        let x = convert_as(o, asks, &table, other, b);
         let y = put_asked(o, sender, x, &mut out[count..]);
         asks = next_asks(o, asks, b);
         sender = y.sender;
