@@ -7,8 +7,8 @@ use Rattle.code.specs.Rows.{rowAt}
 use Rattle.code.specs.Kinds.{kindOf}
 use Rattle.code.specs.Convert.{conversion}
 use Rattle.message.specs.Message.{digits}
-use Rattle.settings.specs.Table.{row, soundString, soundSettings, soundConnection}
-use Rattle.settings.specs.Options.{endings, limit, onspace, onreturn, filter, reports, endingCodes}
+use Rattle.settings.specs.Table.{row, soundString, soundStandIn, soundSettings, soundConnection}
+use Rattle.settings.specs.Options.{endings, limit, onspace, onreturn, filter, reports, standIn, endingCodes}
 use Rattle.step.specs.Route.{route}
 use Rattle.settings.specs.Command.{commanded}
 use Rattle.demands.specs.Names.{Host}
@@ -17,10 +17,10 @@ use Rattle.demands.specs.Forgetful.{forgetful, ready, spaces, paper, Van
 
 -- endings vanish
 pub vanishes : Vanishes
-unfolding conversion kindOf rowAt digits soundString row route soundSettings soundConnection commanded endings limit onspace onreturn filter reports endingCodes
+unfolding conversion kindOf rowAt digits soundString row route soundStandIn soundSettings soundConnection commanded endings limit onspace onreturn filter reports standIn endingCodes
 vanishes = record { due = refl; sent = refl }
 
 -- twelve codes are written where the fold gives seventeen
 pub forgetful-fails : ExactCodes forgetful → ⊥
-unfolding conversion kindOf rowAt digits soundString row route soundSettings soundConnection commanded endings limit onspace onreturn filter reports endingCodes
+unfolding conversion kindOf rowAt digits soundString row route soundStandIn soundSettings soundConnection commanded endings limit onspace onreturn filter reports standIn endingCodes
 forgetful-fails h = eqb-false 12 17 refl (h Host ready spaces paper [] .count-first)

@@ -27,22 +27,22 @@ use Rattle.step.proofs.Stays.{sound-parts}
 use Rattle.linebox.specs.Call.{call}
 use Rattle.linebox.specs.Ends.{fitsAt, Ends}
 use Rattle.linebox.proofs.Ending.{ends}
-use Rattle.demands.specs.Names.{Case, Kind, Wanted, Route, Dropped, ToPrinter, ToHost, ToTu, Out, Nothing, One, Two, Finished, State, Stream, Host, Line, Tu}
+use Rattle.demands.specs.Names.{Case, Kind, Settings, Wanted, Route, Dropped, ToPrinter, ToHost, ToTu, Out, Nothing, One, Two, Finished, State, Stream, Host, Line, Tu}
 
 -- what the command reader made is two bytes at most
-text-two : (k : Route) (bs : List ℕ) → length bs ≤ 2 → length (text k bs) ≤ 2
-text-two Dropped bs h = lit≤ tt
-text-two ToPrinter bs h = omega (arith, text-few bs, h)
-text-two ToHost bs h = lit≤ tt
-text-two ToTu bs h = lit≤ tt
+text-two : (o : Settings) (k : Route) (bs : List ℕ) → length bs ≤ 2 → length (text o k bs) ≤ 2
+text-two o Dropped bs h = lit≤ tt
+text-two o ToPrinter bs h = omega (arith, text-few o bs, h)
+text-two o ToHost bs h = lit≤ tt
+text-two o ToTu bs h = lit≤ tt
 
 sends-few : (s : State) (ws : List Wanted) → Sound (s .settings) (s .connection) → length ws ≤ 2 → Few Host (sends s ws)
 sends-few s ws h few = record { line = items-length (s .settings) (h .settings) (s .sender) ws few; host = lit≤ tt; tu = lit≤ tt }
 
 hosted-few : (s : State) (fields : List ℕ) (out : Out) → length fields ≡ 11 → Sound (s .settings) (s .connection) → Few Host (hosted s fields out)
 hosted-few s fields Nothing l h = record { line = lit≤ tt; host = lit≤ tt; tu = lit≤ tt }
-hosted-few s fields (One b) l h = sends-few s (text (route (s .connection) Host) (b ∷ [])) h (text-two (route (s .connection) Host) (b ∷ []) (lit≤ tt))
-hosted-few s fields (Two b) l h = sends-few s (text (route (s .connection) Host) (47 ∷ b ∷ [])) h (text-two (route (s .connection) Host) (47 ∷ b ∷ []) (lit≤ tt))
+hosted-few s fields (One b) l h = sends-few s (text (s .settings) (route (s .connection) Host) (b ∷ [])) h (text-two (s .settings) (route (s .connection) Host) (b ∷ []) (lit≤ tt))
+hosted-few s fields (Two b) l h = sends-few s (text (s .settings) (route (s .connection) Host) (47 ∷ b ∷ [])) h (text-two (s .settings) (route (s .connection) Host) (47 ∷ b ∷ []) (lit≤ tt))
 hosted-few s fields (Finished v count) l h = record { line = lit≤ tt; host = answers-short (s .settings) (s .connection) h v count fields l .short; tu = lit≤ tt }
 
 read-few : (reports : Bool) (case : Case) (k : Kind) (c : ℕ) → length (readAs reports case k c) ≤ 1

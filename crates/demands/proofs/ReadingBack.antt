@@ -32,7 +32,7 @@ use Rattle.demands.specs.Asks.{codeIn, textBytes, hostAsks, tuAsks, asks
 use Rattle.demands.specs.Lent.{lines, inForce}
 use Rattle.demands.specs.Printing.{charactersOf}
 use Rattle.demands.specs.Whole.{asksAll}
-use Rattle.demands.specs.ReadingBack.{under, readBack, hostByte, hostBytes, texts, plainText, AllPlain, Joins, ReadsBack}
+use Rattle.demands.specs.ReadingBack.{under, readBack, hostByte, hostBytes, hostForce, texts, plainText, AllPlain, Joins, ReadsBack}
 use Rattle.demands.proofs.Sending.{line-items, sender-items}
 use Rattle.demands.proofs.Sessions.{lines-append}
 use Rattle.demands.proofs.Reading.{items-read}
@@ -158,27 +158,26 @@ host-bytes : (xs : List ℕ) → hostBytes (events Host xs) ≡ xs
 host-bytes [] = refl
 host-bytes (x ∷ xs) = ap (λ (r : List ℕ). x ∷ r) (host-bytes xs)
 
-text-append : (xs ys : List ℕ) → textBytes (xs ++ ys) ≡ textBytes xs ++ textBytes ys
-text-append [] ys = refl
-text-append (x ∷ xs) ys = rw (text-append xs ys, append-assoc)
-
 asks-text : (s : State) (es : List Event) → s .connection .mode ≡ 1 → AllPlain s es → asksAll s es ≡ plainText s es
 asks-text s [] e h = refl
 asks-text s (x ∷ es) e h = go (x .stream) (x .byte) (asks-text (step (x .stream) s (x .byte) .state) es (ap (λ (k : Connection). k .mode) (stays-by (x .stream) s (x .byte) (h .0 .stays)) ∙ e) (h .1))
   where
+    -- the rest, whatever the command reader holds
+    later : (t : Stream) (b : ℕ) → Reader → List ℕ
+    later t b q = texts (hostForce (step t s b .state) es) (made q (hostBytes es))
+
     go : (t : Stream) (b : ℕ) → asksAll (step t s b .state) es ≡ plainText (step t s b .state) es
-        → asksBy t s b ++ asksAll (step t s b .state) es ≡ textBytes (texts (made (s .reader) (hostByte t b ++ hostBytes es)))
+        → asksBy t s b ++ asksAll (step t s b .state) es ≡ texts (replicate (length (hostByte t b)) (s .settings) ++ hostForce (step t s b .state) es) (made (s .reader) (hostByte t b ++ hostBytes es))
     go Host b rest =
         let r = read (s .reader) b in
+        let own = textBytes (s .settings) (textOf (r .out)) in
         let same : step Host s b .state .reader ≡ r .reader = hosted-reader (withReader s (r .reader)) (s .reader .values) (r .out) in
-        ap (λ (m : ℕ). cond (eqb m 1) (textBytes (textOf (r .out))) [] ++ asksAll (step Host s b .state) es) e
-        ∙ ap (λ (u : List ℕ). textBytes (textOf (r .out)) ++ u) (rest ∙ ap (λ (q : Reader). textBytes (texts (made q (hostBytes es)))) same)
-        ∙ sym (text-append (textOf (r .out)) (texts (made (r .reader) (hostBytes es))))
-    go Line b rest = rest ∙ ap (λ (q : Reader). textBytes (texts (made q (hostBytes es)))) (ap (λ (x : State). x .reader) (lined-touches (route (s .connection) Line) s b))
+        ap (λ (m : ℕ). cond (eqb m 1) own [] ++ asksAll (step Host s b .state) es) e ∙ ap (λ (u : List ℕ). own ++ u) (rest ∙ ap (later Host b) same)
+    go Line b rest = rest ∙ ap (later Line b) (ap (λ (x : State). x .reader) (lined-touches (route (s .connection) Line) s b))
     go Tu b rest =
         ap (λ (m : ℕ). cond (eqb m 4) (codeIn (s .incoming) b) [] ++ asksAll (step Tu s b .state) es) e
         ∙ rest
-        ∙ ap (λ (q : Reader). textBytes (texts (made q (hostBytes es)))) (ap (λ (x : State). x .reader) (tued-touches (route (s .connection) Tu) s b))
+        ∙ ap (later Tu b) (ap (λ (x : State). x .reader) (tued-touches (route (s .connection) Tu) s b))
 
 -- A connection command that succeeds sends nothing.
 
@@ -208,11 +207,11 @@ module _ (s : State) (e : Event) (j : Joins s e) where
 
   -- The same of one host stream, cut into calls in any way and with any rooms, each going on at the first byte not taken.
   pub cut-reads-back : (xs : List ℕ) (cs : List Cut) → AllPlain joined (events Host xs) → feeding Host joined xs cs .taken ≡ length xs
-      → readBack joined (inForce joined (events Host xs)) (feeding Host joined xs cs .first) ≡ textBytes (texts (made (joined .reader) xs))
+      → readBack joined (inForce joined (events Host xs)) (feeding Host joined xs cs .first) ≡ texts (hostForce joined (events Host xs)) (made (joined .reader) xs)
   cut-reads-back xs cs h all =
       ap (λ (f : Fed). readBack joined (inForce joined (events Host xs)) (f .first)) (cutting Host joined xs cs all)
       ∙ reads-back (events Host xs) h
-      ∙ ap (λ (bs : List ℕ). textBytes (texts (made (joined .reader) bs))) (host-bytes xs)
+      ∙ ap (λ (bs : List ℕ). texts (hostForce joined (events Host xs)) (made (joined .reader) bs)) (host-bytes xs)
 
 -- What any bytes send, from any state on, reads back.
 pub lines-read-back : (start : State) (es : List Event) → ReadsBack start es (lines start es)

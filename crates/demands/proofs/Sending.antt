@@ -10,32 +10,32 @@ use Rattle.step.specs.Route.{route}
 use Rattle.step.specs.State.{withReader}
 use Rattle.step.specs.Step.{text, hosted, lined, tued, step, Event}
 use Rattle.step.proofs.Ways.{lined-touches}
-use Rattle.demands.specs.Names.{Reader, Out, Nothing, One, Two, Finished, Route, Dropped, ToPrinter, ToHost, ToTu, Sender, State, Stream, Host, Line, Tu}
+use Rattle.demands.specs.Names.{Reader, Out, Nothing, One, Two, Finished, Settings, Route, Dropped, ToPrinter, ToHost, ToTu, Sender, State, Stream, Host, Line, Tu}
 use Rattle.demands.specs.Connects.{connecting, connectsBy, connects}
 use Rattle.demands.specs.Items.{carriedTo, itemsBy, itemsOf}
 use Rattle.demands.proofs.Sessions.{lined-none}
 
-text-none : (k : Route) → text k [] ≡ []
-text-none Dropped = refl
-text-none ToPrinter = refl
-text-none ToHost = refl
-text-none ToTu = refl
+text-none : (o : Settings) (k : Route) → text o k [] ≡ []
+text-none o Dropped = refl
+text-none o ToPrinter = refl
+text-none o ToHost = refl
+text-none o ToTu = refl
 
 module _ (s : State) where
   abbrev afterBy : Stream → ℕ → Sender
   afterBy t b = afterItems (s .settings) (s .sender) (itemsBy t s b)
 
-  hosted-line : (r : Reader) (out : Out) → hosted (withReader s r) (s .reader .values) out .line ≡ items (s .settings) (s .sender) (text (route (s .connection) Host) (textOf out))
-  hosted-line r Nothing = rw (text-none (route (s .connection) Host))
+  hosted-line : (r : Reader) (out : Out) → hosted (withReader s r) (s .reader .values) out .line ≡ items (s .settings) (s .sender) (text (s .settings) (route (s .connection) Host) (textOf out))
+  hosted-line r Nothing = rw (text-none (s .settings) (route (s .connection) Host))
   hosted-line r (One b) = refl
   hosted-line r (Two b) = refl
-  hosted-line r (Finished v count) = rw (text-none (route (s .connection) Host))
+  hosted-line r (Finished v count) = rw (text-none (s .settings) (route (s .connection) Host))
 
-  hosted-sender : (r : Reader) (out : Out) → hosted (withReader s r) (s .reader .values) out .state .sender ≡ cond (connecting s out) fresh (afterItems (s .settings) (s .sender) (text (route (s .connection) Host) (textOf out)))
-  hosted-sender r Nothing = rw (text-none (route (s .connection) Host))
+  hosted-sender : (r : Reader) (out : Out) → hosted (withReader s r) (s .reader .values) out .state .sender ≡ cond (connecting s out) fresh (afterItems (s .settings) (s .sender) (text (s .settings) (route (s .connection) Host) (textOf out)))
+  hosted-sender r Nothing = rw (text-none (s .settings) (route (s .connection) Host))
   hosted-sender r (One b) = refl
   hosted-sender r (Two b) = refl
-  hosted-sender r (Finished v count) = rw (text-none (route (s .connection) Host))
+  hosted-sender r (Finished v count) = rw (text-none (s .settings) (route (s .connection) Host))
 
   tued-line : (k : Route) (c : ℕ) → tued k s c .line ≡ items (s .settings) (s .sender) (carriedTo k s c)
   tued-line Dropped c = refl

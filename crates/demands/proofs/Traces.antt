@@ -6,13 +6,13 @@ use Rattle.code.specs.Rows.{rowAt}
 use Rattle.code.specs.Kinds.{kindOf}
 use Rattle.code.specs.Convert.{conversion}
 use Rattle.message.specs.Message.{digits}
-use Rattle.settings.specs.Table.{row, soundString, soundSettings, soundConnection}
-use Rattle.settings.specs.Options.{endings, limit, onspace, onreturn, filter, reports, endingCodes}
+use Rattle.settings.specs.Table.{row, soundString, soundStandIn, soundSettings, soundConnection}
+use Rattle.settings.specs.Options.{endings, limit, onspace, onreturn, filter, reports, standIn, endingCodes}
 use Rattle.step.specs.Route.{route}
 use Rattle.settings.specs.Command.{commanded}
 use Rattle.demands.specs.Traces.{traces, passes}
 
 -- all ten starred lines, and one more
 pub traces-pass : passes traces ≡ true
-unfolding traces conversion kindOf rowAt digits soundString row route soundSettings soundConnection commanded endings limit onspace onreturn filter reports endingCodes
+unfolding traces conversion kindOf rowAt digits soundString row route soundStandIn soundSettings soundConnection commanded endings limit onspace onreturn filter reports standIn endingCodes
 traces-pass = refl

@@ -1,4 +1,4 @@
--- A session that meets every premise of demand 3: commands, text, an ending, a change of limit, a second connection with a printer
+-- A session that meets every premise of demand 3: commands, text, an ending, a change of limit, a stand-in, a second connection with a printer
 -- that unshifts on space by itself, and a third with one that unshifts on return, also in an ending; two of its calls stop early.
 use Prim.Native.Nat.{ℕ}
 use mathlib.Core.Bool.{true, false, cond}
@@ -10,7 +10,7 @@ use Rattle.step.specs.Step.{Event}
 use Rattle.linebox.specs.Ends.{events}
 use Rattle.demands.specs.Names.{Figures, Printer, Host, Line, Tu}
 use Rattle.demands.specs.Lent.{Lent}
-use Rattle.demands.specs.Traces.{write, mode1, mode4, on70, on71, endingsOn}
+use Rattle.demands.specs.Traces.{write, mode1, mode4, on70, on71, dash77, endingsOn}
 
 -- a call with so much room in the line buffer
 abbrev host : ℕ → List ℕ → Lent
@@ -27,9 +27,9 @@ hello = 13 ∷ 72 ∷ 69 ∷ 76 ∷ 76 ∷ 79 ∷ 32 ∷ 87 ∷ 79 ∷ 82 ∷ 76
 abbrev world : List ℕ
 world = 68 ∷ 32 ∷ 49 ∷ 50 ∷ []
 
--- limit 12, 70 on, and ` 3`
+-- limit 12, 70 on, the stand-in `-`, and ` 3~`
 abbrev change : List ℕ
-change = limit12 ++ on70 ++ 32 ∷ 51 ∷ []
+change = limit12 ++ on70 ++ dash77 ++ 32 ∷ 51 ∷ 126 ∷ []
 
 -- from the TU: FIGS, a figure, a space, a letter and a return
 abbrev figure : List ℕ
@@ -66,17 +66,17 @@ second = from Figures 40 true false
 abbrev pub third : Printer
 third = from Figures 3 false true
 
--- the second connection comes after the fiftieth byte, the third after the hundredth
+-- the second connection comes after the fiftieth byte, the third after the 120th
 abbrev pub joining : ℕ → Printer
-joining n = cond (ltb n 50) first (cond (ltb n 100) second third)
+joining n = cond (ltb n 50) first (cond (ltb n 120) second third)
 
 -- the codes in the line buffers, connection by connection; each `8 ∷ 8 ∷ 2` and `8 ∷ 31 ∷ 8 ∷ 2` begins an ending
 abbrev pub codes : List ℕ
 codes =
-    8 ∷ 31 ∷ 20 ∷ 1 ∷ 18 ∷ 18 ∷ 24 ∷ 4 ∷ 19 ∷ 24 ∷ 10 ∷ 18 ∷ 8 ∷ 8 ∷ 2 ∷ 31 ∷ 31 ∷ 9 ∷ 4 ∷ 27 ∷ 23 ∷ 19 ∷ 4 ∷ 31 ∷ 27 ∷ 1 ∷ []
+    8 ∷ 31 ∷ 20 ∷ 1 ∷ 18 ∷ 18 ∷ 24 ∷ 4 ∷ 19 ∷ 24 ∷ 10 ∷ 18 ∷ 8 ∷ 8 ∷ 2 ∷ 31 ∷ 31 ∷ 9 ∷ 4 ∷ 27 ∷ 23 ∷ 19 ∷ 4 ∷ 31 ∷ 27 ∷ 1 ∷ 3 ∷ []
     ++ 27 ∷ 23 ∷ 4 ∷ 31 ∷ 16 ∷ 8 ∷ []
     ++ 8 ∷ 31 ∷ 27 ∷ 23 ∷ 19 ∷ 1 ∷ 10 ∷ 16 ∷ 21 ∷ 7 ∷ 6 ∷ 24 ∷ 22 ∷ 23 ∷ 19 ∷ 8 ∷ 31 ∷ 8 ∷ 2 ∷ 31 ∷ 31 ∷ 27 ∷ 1 ∷ []
 
 -- what is asked for, and so printed beside the two endings
 abbrev pub asked : List ℕ
-asked = hello ++ world ++ 32 ∷ 51 ∷ [] ++ 49 ∷ 32 ∷ 84 ∷ 13 ∷ [] ++ figures
+asked = hello ++ world ++ 32 ∷ 51 ∷ 45 ∷ [] ++ 49 ∷ 32 ∷ 84 ∷ 13 ∷ [] ++ figures

@@ -14,7 +14,7 @@ carriedTo ToHost s c = []
 carriedTo ToTu s c = []
 
 abbrev pub itemsBy : Stream → State → ℕ → List Wanted
-itemsBy Host s b = text (route (s .connection) Host) (textOf (read (s .reader) b .out))
+itemsBy Host s b = text (s .settings) (route (s .connection) Host) (textOf (read (s .reader) b .out))
 itemsBy Line s c = []
 itemsBy Tu s c = carriedTo (route (s .connection) Tu) s c
 

@@ -3,7 +3,7 @@ use Prim.Native.Nat.{ℕ}
 use mathlib.Core.Path.{_≡_}
 use mathlib.Core.Bool.{true, false}
 use mathlib.Core.List.{List, [], _∷_, _++_}
-use lib.ListN.{length, take, drop}
+use lib.ListN.{length, take, drop, replicate}
 use Rattle.command.specs.Read.{textOf}
 use Rattle.command.specs.Reads.{made}
 use Rattle.settings.specs.Options.{endings, reports}
@@ -37,13 +37,21 @@ abbrev pub hostBytes : List Event → List ℕ
 hostBytes [] = []
 hostBytes (e ∷ es) = hostByte (e .stream) (e .byte) ++ hostBytes es
 
-abbrev pub texts : List Out → List ℕ
-texts [] = []
-texts (x ∷ xs) = textOf x ++ texts xs
+-- the settings in force for each of these bytes: those before it
+abbrev pub hostForce : State → List Event → List Settings
+hostForce s [] = []
+hostForce s (e ∷ es) = replicate (length (hostByte (e .stream) (e .byte))) (s .settings) ++ hostForce (step (e .stream) s (e .byte) .state) es
 
--- what the command reader makes of the host bytes; of it the convertible text in capitals, without its shift requests
+-- text, each under the settings that stand beside it
+abbrev pub texts : List Settings → List Out → List ℕ
+texts [] xs = []
+texts (o ∷ os) [] = []
+texts (o ∷ os) (x ∷ xs) = textBytes o (textOf x) ++ texts os xs
+
+-- what the command reader makes of the host bytes; of it, after option 77's replacement, the convertible text in capitals, without its
+-- shift requests
 abbrev pub plainText : State → List Event → List ℕ
-plainText s es = textBytes (texts (made (s .reader) (hostBytes es)))
+plainText s es = texts (hostForce s es) (made (s .reader) (hostBytes es))
 
 -- Premises.
 

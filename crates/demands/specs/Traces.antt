@@ -63,6 +63,10 @@ on49 = on 52 57
 abbrev pub limit10 : List ℕ
 limit10 = write ++ 53 ∷ 48 ∷ 44 ∷ 49 ∷ 44 ∷ 49 ∷ 48 ∷ 13 ∷ []
 
+-- 77,1,45: the stand-in is `-`
+abbrev pub dash77 : List ℕ
+dash77 = write ++ 55 ∷ 55 ∷ 44 ∷ 49 ∷ 44 ∷ 52 ∷ 53 ∷ 13 ∷ []
+
 -- The table.
 
 abbrev host : List ℕ → List ℕ → List ℕ → Trace

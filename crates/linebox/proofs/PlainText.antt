@@ -57,11 +57,11 @@ unmoved t s input old ok = record { new = []; within = omega arith; kept = ok; p
 
 -- Text.
 
-open-text : (k : Route) (bs : List ℕ) → isPrinter k ≡ true → text k bs ≡ wantedText bs
-open-text Dropped bs h = absurd (false≢true h)
-open-text ToPrinter bs h = refl
-open-text ToHost bs h = absurd (false≢true h)
-open-text ToTu bs h = absurd (false≢true h)
+open-text : (o : Settings) (k : Route) (bs : List ℕ) → isPrinter k ≡ true → text o k bs ≡ wantedText o bs
+open-text o Dropped bs h = absurd (false≢true h)
+open-text o ToPrinter bs h = refl
+open-text o ToHost bs h = absurd (false≢true h)
+open-text o ToTu bs h = absurd (false≢true h)
 
 -- with nothing held, any byte but `/` is text
 reads-text : (st : Stage) (values : List ℕ) (b : ℕ) → isText st ≡ true → eqb b 47 ≡ false → readAt st values b ≡ at stage.Text (One b)
@@ -83,8 +83,8 @@ texting-sound s x ok =
     let p = sound-parts s ok in
     parts-sound (texting s x) (record { held = p .held; stage = refl; eleven = refl })
 
-text-step : (s : State) (b : ℕ) → isPrinter (route (s .connection) Host) ≡ true → isText (s .reader .stage) ≡ true → eqb b 47 ≡ false → hostStep s b ≡ sends (withReader s idle) (wantedBy Text b)
-text-step s b m h e = rw (reads-text (s .reader .stage) (s .reader .values) b h e, open-text (route (s .connection) Host) (b ∷ []) m, append-nil)
+text-step : (s : State) (b : ℕ) → isPrinter (route (s .connection) Host) ≡ true → isText (s .reader .stage) ≡ true → eqb b 47 ≡ false → hostStep s b ≡ sends (withReader s idle) (wantedBy (s .settings) Text b)
+text-step s b m h e = rw (reads-text (s .reader .stage) (s .reader .values) b h e, open-text (s .settings) (route (s .connection) Host) (b ∷ []) m, append-nil)
 
 plain-text : (s : State) → isPrinter (route (s .connection) Host) ≡ true → (x : Sender) (a : Asks) (b : ℕ) → asText a ≡ true → stopsAt (Byte 47) b ≡ false → Plain Host (s .settings) (λ y z. texting s y) x a b
 plain-text s m x Text b h e =

@@ -20,8 +20,8 @@ use Rattle.linebox.specs.Call.{firstOf, secondOf, refuses, fits, Done, o
 -- a byte that is taken as its items go out, and writes to the first buffer alone
 pub record Plain (t : Stream) (o : Settings) (st : Sender → Asks → State) (x : Sender) (a : Asks) (b : ℕ) : Type 0 where
   pub is-taken : refuses t (st x a) b ≡ false
-  pub state : step t (st x a) b .state ≡ st (afterItems o x (wantedBy a b)) (asksNext o a b)
-  pub first : firstOf t (step t (st x a) b) ≡ items o x (wantedBy a b)
+  pub state : step t (st x a) b .state ≡ st (afterItems o x (wantedBy o a b)) (asksNext o a b)
+  pub first : firstOf t (step t (st x a) b) ≡ items o x (wantedBy o a b)
   pub second : secondOf t (step t (st x a) b) ≡ []
 
 -- one byte's codes before what stands before the rest
@@ -39,17 +39,17 @@ module _ (t : Stream) (o : Settings) (st : Sender → Asks → State) where
   none-stand x a xs room more = rw (sub-zero room, zero-add)
 
   -- a byte fits exactly if its codes do
-  one-fits : (x : Sender) (a : Asks) (b : ℕ) (room more : ℕ) → Plain t o st x a b → fits t (step t (st x a) b) room more ≡ leb (length (items o x (wantedBy a b))) room
+  one-fits : (x : Sender) (a : Asks) (b : ℕ) (room more : ℕ) → Plain t o st x a b → fits t (step t (st x a) b) room more ≡ leb (length (items o x (wantedBy o a b))) room
   one-fits x a b room more p = rw (p .first, p .second, leb·zero, and-true)
 
   -- where the most that a byte can be has room, it fits
   pub most-fits : length (endingCodes o) ≡ 8 → (x : Sender) (a : Asks) (b : ℕ) (room more : ℕ) → Plain t o st x a b → leb most room ≡ true → fits t (step t (st x a) b) room more ≡ true
   most-fits eight x a b room more p h =
-      let n = length (items o x (wantedBy a b)) in
-      one-fits x a b room more p ∙ le-leb n room (omega (arith, byte-most o eight x (converted a b), leb-true most room h))
+      let n = length (items o x (wantedBy o a b)) in
+      one-fits x a b room more p ∙ le-leb n room (omega (arith, byte-most o eight x (converted o a b), leb-true most room h))
 
   one-more : length (endingCodes o) ≡ 8 → (until : Until) (x : Sender) (a : Asks) (b : ℕ) (xs : List ℕ) (room more : ℕ) → (stopsAt until b ≡ false → Plain t o st x a b)
-      → (let y = afterItems o x (wantedBy a b) in let r = room - length (items o x (wantedBy a b)) in Stands y (asksNext o a b) xs r more (runOf o y (asksNext o a b) until xs r))
+      → (let y = afterItems o x (wantedBy o a b) in let r = room - length (items o x (wantedBy o a b)) in Stands y (asksNext o a b) xs r more (runOf o y (asksNext o a b) until xs r))
       → Stands x a (b ∷ xs) room more (runOf o x a until (b ∷ xs) room)
   one-more eight until x a b xs room more plain rest = go (stopsAt until b) refl (leb most room) refl
     where
@@ -58,8 +58,8 @@ module _ (t : Stream) (o : Settings) (st : Sender → Asks → State) where
       go false e false f = rw (e, f) (none-stand x a (b ∷ xs) room more)
       go false e true f =
           let p = plain e in
-          let cs = items o x (wantedBy a b) in
-          let d = runOf o (afterItems o x (wantedBy a b)) (asksNext o a b) until xs (room - length cs) in
+          let cs = items o x (wantedBy o a b) in
+          let d = runOf o (afterItems o x (wantedBy o a b)) (asksNext o a b) until xs (room - length cs) in
           let u : room - length cs - length (d .codes) ≡ room - length (cs ++ d .codes) = omega (arith, length-append cs (d .codes)) in
           rw (e, f, p .is-taken, most-fits eight x a b room more p f, p .state, p .first, p .second, sub-zero more, rest, u) (nested (d .taken) cs (d .codes) _)
 

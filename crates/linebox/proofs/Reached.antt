@@ -13,8 +13,8 @@ use Rattle.command.specs.declared.Verb.the-variants as verb
 use Rattle.command.specs.declared.Form.the-variants as form
 use Rattle.command.specs.declared.Stage.{Stage}
 use Rattle.command.specs.declared.Stage.the-variants.{Held, Text, Fields}
-use Rattle.settings.specs.Table.{row, soundString, soundSettings, soundConnection}
-use Rattle.settings.specs.Options.{endings, limit, onspace, onreturn, filter, reports, endingCodes}
+use Rattle.settings.specs.Table.{row, soundString, soundStandIn, soundSettings, soundConnection}
+use Rattle.settings.specs.Options.{endings, limit, onspace, onreturn, filter, reports, standIn, endingCodes}
 use Rattle.settings.specs.Command.{commanded}
 use Rattle.sender.specs.declared.Known.the-variants.{Is}
 use Rattle.sender.specs.declared.Column.the-variants.{At}
@@ -57,24 +57,24 @@ pub record Reached (t : Stream) (s : State) (b n m : ℕ) : Type 0 where
 
 -- a held `/` and a letter
 pub text : Reached Host (due mode1 shifting Held) 65 (mostFirst Host) 0
-unfolding soundString soundSettings soundConnection commanded row route endings limit onspace onreturn filter endingCodes conversion kindOf rowAt
+unfolding soundString soundStandIn soundSettings soundConnection commanded row route endings limit onspace onreturn filter standIn endingCodes conversion kindOf rowAt
 text = record { sound = refl; first = refl; second = refl }
 
 -- string 90 read
 pub answer : Reached Host (due mode1 wide (Fields verb.Read form.Digits 1)) 13 0 (mostSecond Host)
-unfolding soundString soundSettings soundConnection commanded row route endingCodes digits
+unfolding soundString soundStandIn soundSettings soundConnection commanded row route endingCodes digits
 answer = record { sound = refl; first = refl; second = refl }
 
 -- a figure from the TU
 pub figure : Reached Tu (due mode4 shifting Text) 23 (mostFirst Tu) 0
-unfolding soundString soundSettings soundConnection commanded row route endings limit onspace onreturn filter endingCodes kindOf rowAt
+unfolding soundString soundStandIn soundSettings soundConnection commanded row route endings limit onspace onreturn filter endingCodes kindOf rowAt
 figure = record { sound = refl; first = refl; second = refl }
 
 -- a line code to the host, and one to the TU
 pub to-host : Reached Line (due mode1 wide Text) 3 (mostFirst Line) 0
-unfolding soundString soundSettings soundConnection commanded row route reports endingCodes kindOf rowAt
+unfolding soundString soundStandIn soundSettings soundConnection commanded row route reports endingCodes kindOf rowAt
 to-host = record { sound = refl; first = refl; second = refl }
 
 pub to-tu : Reached Line (due mode4 wide Text) 3 0 (mostSecond Line)
-unfolding soundString soundSettings soundConnection commanded row route endingCodes
+unfolding soundString soundStandIn soundSettings soundConnection commanded row route endingCodes
 to-tu = record { sound = refl; first = refl; second = refl }

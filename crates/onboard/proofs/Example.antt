@@ -6,8 +6,8 @@ use Rattle.code.specs.Rows.{rowAt}
 use Rattle.code.specs.Kinds.{kindOf}
 use Rattle.code.specs.Convert.{conversion}
 use Rattle.message.specs.Message.{digits}
-use Rattle.settings.specs.Table.{row, soundString, soundSettings, soundConnection}
-use Rattle.settings.specs.Options.{endings, limit, onspace, onreturn, filter, reports, endingCodes}
+use Rattle.settings.specs.Table.{row, soundString, soundStandIn, soundSettings, soundConnection}
+use Rattle.settings.specs.Options.{endings, limit, onspace, onreturn, filter, reports, standIn, endingCodes}
 use Rattle.settings.specs.Command.{commanded}
 use Rattle.step.specs.Route.{route}
 use Rattle.step.specs.State.{freshBox}
@@ -19,19 +19,19 @@ use Rattle.onboard.specs.Example.{opened, short, again, dropped, calls}
 use Rattle.onboard.proofs.Session.{session-demanded}
 
 opened-promised : Promised opened
-unfolding spells spelt stateOf conversion kindOf rowAt digits soundString row route soundSettings soundConnection commanded endings limit onspace onreturn filter reports endingCodes
+unfolding spells spelt stateOf conversion kindOf rowAt digits soundString row route soundStandIn soundSettings soundConnection commanded endings limit onspace onreturn filter reports standIn endingCodes
 opened-promised = record { answer = refl; bytes = refl; told = refl; one = refl; two = refl }
 
 short-promised : Promised short
-unfolding spells spelt stateOf conversion kindOf rowAt digits soundString row route soundSettings soundConnection commanded endings limit onspace onreturn filter reports endingCodes
+unfolding spells spelt stateOf conversion kindOf rowAt digits soundString row route soundStandIn soundSettings soundConnection commanded endings limit onspace onreturn filter reports standIn endingCodes
 short-promised = record { answer = refl; bytes = refl; told = refl; one = refl; two = refl }
 
 again-promised : Promised again
-unfolding spells spelt stateOf conversion kindOf rowAt digits soundString row route soundSettings soundConnection commanded endings limit onspace onreturn filter reports endingCodes
+unfolding spells spelt stateOf conversion kindOf rowAt digits soundString row route soundStandIn soundSettings soundConnection commanded endings limit onspace onreturn filter reports standIn endingCodes
 again-promised = record { answer = refl; bytes = refl; told = refl; one = refl; two = refl }
 
 dropped-promised : Promised dropped
-unfolding spells spelt stateOf conversion kindOf rowAt digits soundString row route soundSettings soundConnection commanded endings limit onspace onreturn filter reports endingCodes
+unfolding spells spelt stateOf conversion kindOf rowAt digits soundString row route soundStandIn soundSettings soundConnection commanded endings limit onspace onreturn filter reports standIn endingCodes
 dropped-promised = (record { answer = refl; bytes = refl; told = refl; one = refl }, (refl, refl))
 
 pub example-session : Session (spelt freshBox) calls

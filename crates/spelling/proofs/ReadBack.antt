@@ -76,7 +76,7 @@ all xs n e = rw e at (whole xs)
 
 -- what the types say of the arrays' lengths is enough
 pub record Formed (s : State) : Type 0 where
-  pub six : length (s .settings .values) ≡ 6
+  pub seven : length (s .settings .values) ≡ 7
   pub eight : length (s .settings .string) ≡ 8
   pub eleven : length (s .reader .values) ≡ 11
 
@@ -85,9 +85,9 @@ unfolding stateOf spelt
 state-back s h =
     let l = s .sender .held .column in
     let g = s .reader .stage in
-    go _ _ (two l) (four g) (column-back l) (stage-back g) (all _ 6 (h .six)) (all _ 8 (h .eight)) (all _ 11 (h .eleven))
+    go _ _ (two l) (four g) (column-back l) (stage-back g) (all _ 7 (h .seven)) (all _ 8 (h .eight)) (all _ 11 (h .eleven))
   where
-    go : (y z : List ℕ) → part y 0 2 ≡ y → part z 0 4 ≡ z → columnOf (getD y 0 0) (getD y 1 0) ≡ s .sender .held .column → stageOf (getD z 0 0) (getD z 1 0) (getD z 2 0) (getD z 3 0) ≡ s .reader .stage → part (s .settings .values) 0 6 ≡ s .settings .values → part (s .settings .string) 0 8 ≡ s .settings .string → part (s .reader .values) 0 11 ≡ s .reader .values → stateOf (laid s y z) ≡ s
+    go : (y z : List ℕ) → part y 0 2 ≡ y → part z 0 4 ≡ z → columnOf (getD y 0 0) (getD y 1 0) ≡ s .sender .held .column → stageOf (getD z 0 0) (getD z 1 0) (getD z 2 0) (getD z 3 0) ≡ s .reader .stage → part (s .settings .values) 0 7 ≡ s .settings .values → part (s .settings .string) 0 8 ≡ s .settings .string → part (s .reader .values) 0 11 ≡ s .reader .values → stateOf (laid s y z) ≡ s
     go y z f g q r u v w = rw (← f, ← g) (simp (q, r, u, v, w, known-back, last-back, case-back))
 
 -- a state of the box's form, spelt and read back
@@ -100,7 +100,7 @@ pub sound-formed : (s : State) → sound s ≡ true → Formed s
 unfolding endingCodes
 sound-formed s h =
     let p = sound-parts s h in
-    record { six = length-in options (s .settings .values) (values-in (s .settings) (p .held .settings)); eight = eight-codes (s .settings) (p .held .settings); eleven = p .eleven }
+    record { seven = length-in options (s .settings .values) (values-in (s .settings) (p .held .settings)); eight = eight-codes (s .settings) (p .held .settings); eleven = p .eleven }
 
 -- so no such state's spelling is refused
 pub none-refused : (b : List ℕ) (s : State) → Formed s → b ≡ spelt s → spells b ≡ true

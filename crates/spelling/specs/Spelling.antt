@@ -43,9 +43,9 @@ formByte Empty = 0
 formByte Digits = 1
 formByte Ex = 2
 
--- the byte of each option, in the table's order: 49, 50, 70, 71, 72, 74
+-- the byte of each option, in the table's order: 49, 50, 70, 71, 72, 74, 77
 abbrev pub offsets : List ℕ
-offsets = 0 ∷ 1 ∷ 2 ∷ 3 ∷ 4 ∷ 5 ∷ []
+offsets = 0 ∷ 1 ∷ 2 ∷ 3 ∷ 4 ∷ 5 ∷ 41 ∷ []
 
 -- the values from place i on, each at its offset
 abbrev pub setsAt : List ℕ → List ℕ → ℕ → List ℕ → List ℕ
@@ -84,7 +84,7 @@ stageBytes Discard = 7 ∷ 0 ∷ 0 ∷ 0 ∷ []
 abbrev pub readerBytes : Reader → List ℕ
 readerBytes r = stageBytes (r .stage) ++ part (r .values) 0 11
 
--- 38 to 127
+-- 38 to 127, where no option is
 abbrev pub spare : List ℕ
 spare = replicate 90 0
 

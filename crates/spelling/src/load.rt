@@ -110,7 +110,7 @@ fn settings_of(b: &[u8; 128]) -> Settings
     ensures { λ r. ⌜ r ≡ settingsOf (now (b .entry)) ⌝ }
 {
     Settings {
-        values: [b[0], b[1], b[2], b[3], b[4], b[5]],
+        values: [b[0], b[1], b[2], b[3], b[4], b[5], b[41]],
         string: [b[6], b[7], b[8], b[9], b[10], b[11], b[12], b[13]],
     }
 }

@@ -37,11 +37,11 @@ module _ (s : State) (room codes : List ℕ) (x : Sent) (wide : length room ≡ 
   pub text-put : length (endingCodes (s .settings)) ≡ 8 → (bs : List ℕ) → length bs ≤ 2
       → SendsRun (runOf (s .settings) (s .sender) Text Never bs (length room)) room codes x
       → Puts (withSender s (x .sender)) (take (x .count) codes) out now r
-      → Puts (sends s (wantedText bs) .state) (sends s (wantedText bs) .line) out now r
+      → Puts (sends s (wantedText (s .settings) bs) .state) (sends s (wantedText (s .settings) bs) .line) out now r
   text-put eight bs h f p =
       let e = text-run (s .settings) eight (s .sender) bs (length room) (omega (arith, h, wide)) in
-      let a : x .sender ≡ afterItems (s .settings) (s .sender) (wantedText bs) = ap (λ (u : Sent). u .sender) (f .gives) ∙ ap (λ (u : Run). u .sender) e in
-      let m : take (x .count) codes ≡ items (s .settings) (s .sender) (wantedText bs) = made _ room codes x f ∙ ap (λ (u : Run). u .codes) e in
+      let a : x .sender ≡ afterItems (s .settings) (s .sender) (wantedText (s .settings) bs) = ap (λ (u : Sent). u .sender) (f .gives) ∙ ap (λ (u : Run). u .sender) e in
+      let m : take (x .count) codes ≡ items (s .settings) (s .sender) (wantedText (s .settings) bs) = made _ room codes x f ∙ ap (λ (u : Run). u .codes) e in
       rw (a, m) at p
 
   -- one TU code

@@ -15,8 +15,8 @@ line-as s c x e = ap (λ (k : Route). lined k s c) e
 pub tu-as : (s : State) (c : ℕ) (x : Route) → route (s .connection) Tu ≡ x → tuStep s c ≡ tued x s c
 tu-as s c x e = ap (λ (k : Route). tued k s c) e
 
-pub text-as : (s : State) (bs : List ℕ) (x : Route) → route (s .connection) Host ≡ x → text (route (s .connection) Host) bs ≡ text x bs
-text-as s bs x e = ap (λ (k : Route). text k bs) e
+pub text-as : (s : State) (bs : List ℕ) (x : Route) → route (s .connection) Host ≡ x → text (s .settings) (route (s .connection) Host) bs ≡ text (s .settings) x bs
+text-as s bs x e = ap (λ (k : Route). text (s .settings) k bs) e
 
 pub host-as : (s : State) (x : Read) (t : State) (out : Out) → t ≡ withReader s (x .reader) → x .out ≡ out → hosted (withReader s (x .reader)) (s .reader .values) (x .out) ≡ hosted t (s .reader .values) out
 host-as s x t out f g =

@@ -11,7 +11,7 @@ use Rattle.settings.specs.Command.{commanded}
 use Rattle.settings.specs.Options.{reports}
 use Rattle.sender.specs.Reading.{readCase}
 use Rattle.sender.specs.Item.{items, afterItems, wanted, wantedText}
-use Rattle.step.specs.Names.{Case, Kind, Still, Space, Return, Shift, Char, Reader, Out, Nothing, One, Two, Finished, Route, Dropped, ToPrinter, ToHost, ToTu, Outcome, Wanted, State, Stream, Host, Line, Tu}
+use Rattle.step.specs.Names.{Case, Kind, Still, Space, Return, Shift, Char, Reader, Out, Nothing, One, Two, Finished, Route, Dropped, ToPrinter, ToHost, ToTu, Settings, Outcome, Wanted, State, Stream, Host, Line, Tu}
 use Rattle.step.specs.Route.{route}
 use Rattle.step.specs.State.{withReader, withSender, withReading, withIncoming, withStored}
 
@@ -32,15 +32,15 @@ sends s ws = record { state = withSender s (afterItems (s .settings) (s .sender)
 -- Host bytes.
 
 -- host text on its route: to the printer, or dropped
-abbrev pub text : Route → List ℕ → List Wanted
-text Dropped bs = []
-text ToPrinter bs = wantedText bs
-text ToHost bs = []
-text ToTu bs = []
+abbrev pub text : Settings → Route → List ℕ → List Wanted
+text o Dropped bs = []
+text o ToPrinter bs = wantedText o bs
+text o ToHost bs = []
+text o ToTu bs = []
 
 -- the text that the command reader made of a byte
 abbrev pub texted : State → Out → Step
-texted s out = sends s (text (route (s .connection) Host) (textOf out))
+texted s out = sends s (text (s .settings) (route (s .connection) Host) (textOf out))
 
 -- commands work in every mode; the answer goes to the host
 abbrev pub obeys : State → Outcome → Step

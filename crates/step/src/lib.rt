@@ -30,8 +30,8 @@ pub enum Route {
     ToTu,
 }
 
-// All that the box knows. The fields' sizes: settings 14, connection 3, sender 6 (record 4, last item 2), the two cases 2, the
-// command reader 15: 40 bytes.
+// All that the box knows. The fields' sizes: settings 15, connection 3, sender 6 (record 4, last item 2), the two cases 2, the
+// command reader 15: 41 bytes.
 pub struct State {
     pub settings: Settings,
     pub connection: Connection,

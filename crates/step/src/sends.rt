@@ -40,7 +40,7 @@ fn put_codes(s: State, codes: [u8; 36], n: usize, out: &mut [u8]) -> Took
 fn put_items(s: State, bytes: &[u8], out: &mut [u8]) -> Took
     requires { ⌜ (length (now bytes) ≤ 2) × Sound (s .settings) (s .connection) ⌝ }
     ensures { λ r. ⌜
-        Puts (sends s (wantedText (now (bytes .entry))) .state) (sends s (wantedText (now (bytes .entry))) .line) (now (out .entry)) (now (out .exit)) r
+        Puts (sends s (wantedText (s .settings) (now (bytes .entry))) .state) (sends s (wantedText (s .settings) (now (bytes .entry))) .line) (now (out .entry)) (now (out .exit)) r
         ⌝ }
 {
     let settings = s.settings;
@@ -62,7 +62,7 @@ fn put_items(s: State, bytes: &[u8], out: &mut [u8]) -> Took
 pub fn put_text(s: State, bytes: &[u8], out: &mut [u8]) -> Took
     requires { ⌜ (length (now bytes) ≤ 2) × Sound (s .settings) (s .connection) ⌝ }
     ensures { λ r. ⌜
-        Puts (sends s (text (route (s .connection) Names·Host) (now (bytes .entry))) .state) (sends s (text (route (s .connection) Names·Host) (now (bytes .entry))) .line) (now (out .entry)) (now (out .exit)) r
+        Puts (sends s (text (s .settings) (route (s .connection) Names·Host) (now (bytes .entry))) .state) (sends s (text (s .settings) (route (s .connection) Names·Host) (now (bytes .entry))) .line) (now (out .entry)) (now (out .exit)) r
         ⌝ }
 {
     let connection = s.connection;
