@@ -80,11 +80,15 @@ enum { LINEBOX_LINE_LEAST = 16, LINEBOX_HOST_LEAST = 36 };
  *   26        stage 6: which field is read, 0 to 11, 11 for too
  *             many; else 0
  *   27 to 37  fields read, eleven bytes                                0 to 255
- *   38 to 127                                                          0
+ *   38 to 40                                                           0
+ *   41        option 77, stand-in for text bytes without a code        0, or 33 to 126 with a code
+ *   42 to 127                                                          0
  *
- * Later requests have their homes in these last bytes. They hold 0 until the request lands; any other value is answer 3.
+ * Later requests have their homes in the bytes that are 0 here. They hold 0 until the request lands; any other value is answer 3.
+ * So a state kept from an older box keeps working: its byte 41 is 0, and text bytes without a code are dropped as before.
  *
- *   38 to 43    ids 52, 53, 76, 77, 78, 79
+ *   38 to 40    ids 52, 53, 76
+ *   42, 43      ids 78, 79
  *   44          motor: 0 off, 1 on
  *   45          0, or one more than the codes heard since the first string 93 that counts (staying at 9); 0 while the motor is on
  *   46          case record of the way to the TU: 0 unknown, 1 letters, 2 figures
@@ -116,7 +120,8 @@ enum {
     LINEBOX_AT_FORM = 25,
     LINEBOX_AT_FIELD = 26,
     LINEBOX_AT_FIELDS = 27,
-    LINEBOX_AT_SPARE = 38
+    LINEBOX_AT_STAND_IN = 41,
+    LINEBOX_AT_SPARE = 42
 };
 
 /* A fresh box: factory settings, mode 11, nothing held. Answers 0. */

@@ -160,8 +160,8 @@ static void report(struct call c) {
   shrink(&c, in);
   same(&c);
   printf("difference %lu, call %s:\n", differences, kind_name[c.kind]);
-  if (c.kind != FIND) show_bytes("state 0-37", c.state, 38);
-  for (int i = 38; i < LINEBOX_STATE; i++)
+  if (c.kind != FIND) show_bytes("state 0-41", c.state, 42);
+  for (int i = 42; i < LINEBOX_STATE; i++)
     if (c.kind != FIND && c.state[i] != 0) printf("  state[%d] = %u\n", i, c.state[i]);
   show_bytes("input", c.in, c.in_len);
   printf("  lent %lu %lu\n", (unsigned long)c.lent[0], (unsigned long)c.lent[1]);
@@ -188,9 +188,11 @@ static void compare(const struct call *c) {
 /* ---- Host bytes ---- */
 
 static const char with_code[] = "ABCDEFGHIJKLMNOPQRSTUVWXYZ0123456789-$',!:(\")2#?&.;";
+static const char without_code[] = "%*+<=>@[\\]^_`{|}~\1\6\b\t\f\20\21\33\37\177\200\215\240\257\301\377";
 
 static uint8_t text_byte(void) {
   unsigned n = below(100);
+  if (n < 5) return (uint8_t)without_code[below(sizeof without_code - 1)];
   if (n < 30) return (uint8_t)('A' + below(26));
   if (n < 38) return (uint8_t)('a' + below(26));
   if (n < 56) return (uint8_t)with_code[below(sizeof with_code - 1)];
@@ -205,6 +207,12 @@ static uint8_t text_byte(void) {
   if (n < 95) return '.';
   if (n < 97) return (uint8_t)below(128);
   return (uint8_t)below(256);
+}
+
+/* A stand-in that 77 may hold, other than 0. */
+static uint8_t stand_in(void) {
+  unsigned n = below(10);
+  return n == 0 ? '/' : n < 4 ? (uint8_t)('a' + below(26)) : (uint8_t)with_code[below(sizeof with_code - 1)];
 }
 
 /* One of eight codes of a string 90, mostly by its rules. */
@@ -245,7 +253,7 @@ static uint64_t put_number(uint8_t *out, uint8_t value) {
 
 /* The parameters of a write, mostly in range; how many there are. */
 static unsigned values(uint8_t id, uint8_t v[8]) {
-  static const uint8_t speeds[4] = {60, 66, 75, 100};
+  static const uint8_t speeds[4] = {60, 66, 75, 100}, edges[] = {0, 0, 1, 14, 32, 33, 37, 126, 127, 128, 255};
   switch (id) {
   case 1: case 4:
     v[0] = (uint8_t)(percent(90) ? between(1, 3) : below(7));
@@ -253,6 +261,9 @@ static unsigned values(uint8_t id, uint8_t v[8]) {
     return 2;
   case 49: case 70: case 71: case 72: case 74: v[0] = (uint8_t)(percent(92) ? below(2) : below(256)); return 1;
   case 50: v[0] = (uint8_t)(percent(60) ? 10 : percent(70) ? between(8, 82) : below(256)); return 1;
+  case 77:
+    v[0] = percent(75) ? stand_in() : percent(70) ? edges[below(sizeof edges)] : (uint8_t)below(256);
+    return 1;
   case 90:
     if (percent(80)) string_90(v);
     else broken_string(v);
@@ -261,7 +272,8 @@ static unsigned values(uint8_t id, uint8_t v[8]) {
   }
 }
 
-static const uint8_t ids[] = {0, 1, 1, 1, 4, 4, 4, 10, 11, 49, 49, 50, 50, 70, 70, 71, 71, 72, 72, 74, 74, 90, 90, 90, 250};
+static const uint8_t ids[] = {0,  1,  1,  1,  4,  4,  4,  10, 11, 49, 49, 50, 50, 70,
+                              70, 71, 71, 72, 72, 74, 74, 77, 77, 77, 90, 90, 90, 250};
 
 /* A command with its end; now and then broken. */
 static uint64_t command(uint8_t *out) {
@@ -368,6 +380,7 @@ static void random_state(uint8_t *s) {
   s[20] = (uint8_t)below(3);
   s[21] = (uint8_t)between(1, 2);
   s[22] = (uint8_t)between(1, 2);
+  if (percent(50)) s[41] = stand_in();
   random_reader(s);
 }
 
@@ -379,7 +392,7 @@ static void any_fields(uint8_t *s) {
 
 static void damage(uint8_t *s) {
   for (unsigned n = between(1, 3); n > 0; n--) {
-    unsigned at = percent(80) ? below(38) : below(LINEBOX_STATE);
+    unsigned at = percent(80) ? below(42) : below(LINEBOX_STATE);
     s[at] = (uint8_t)(percent(50) ? s[at] + 1 : percent(50) ? below(13) : below(256));
   }
 }
@@ -452,14 +465,14 @@ static void session(void) {
 
 /* One call of each kind on a state with one byte changed to any value. */
 static void every_damage(void) {
-  static const uint8_t host_in[] = ",1\rA1 /", codes[] = {27, 23, 4, 31, 5, 8, 3};
+  static const uint8_t host_in[] = ",1\rA~ 1/", codes[] = {27, 23, 4, 31, 5, 8, 3, 0};
   uint8_t base[LINEBOX_STATE];
   random_state(base);
   if (percent(20)) model_fresh(base);
   for (int at = 0; at < LINEBOX_STATE; at++) {
     for (unsigned value = 0; value < 256; value++) {
       struct call c = {.kind = (int)below(3), .lent = {60, 60}};
-      if (at >= 38 && value > 3 && value != 128 && value != 255) continue;
+      if (at >= 38 && at != 41 && value > 3 && value != 128 && value != 255) continue;
       memcpy(c.state, base, LINEBOX_STATE);
       c.state[at] = (uint8_t)value;
       c.in = c.kind == HOST ? host_in : codes;

@@ -73,6 +73,7 @@ static const char *shown(const uint8_t *bytes, uint64_t n) {
 #define ON(id) "/.TW," id ",1,1\r"
 #define LIMIT_10 ON("49") "/.TW,50,1,10\r"
 #define STRING(codes) "/.TW,90,8," codes "\r"
+#define STAND_IN(value) "/.TW,77,1," value "\r"
 #define TEN "\rABCDEFGHIJ" /* a return and ten letters */
 
 struct trace {
@@ -146,6 +147,33 @@ static const struct trace host_lines[] = {
     {"not after a byte between", MODE_1, "/.TW,49\rA\nB", "31 3 2 25"},
     {"not after a byte without a code between", MODE_1, "/.TW,49\r%\nB", "2 31 25"},
     {"a command between does not touch the record", MODE_1 "1", "/.TR,0,0\r1", "23"},
+    /* the stand-in */
+    {"12~34 with 77 at -", MODE_1 STAND_IN("45"), "12~34", "27 23 19 3 1 10"},
+    {"and with 77 at 0", MODE_1 STAND_IN("45") STAND_IN("0"), "12~34", "27 23 19 1 10"},
+    {"a control, DEL, 128 and 255", MODE_1 STAND_IN("63"), "A\021\177\200\377B", "31 3 27 25 25 25 25 31 25"},
+    {"bytes with a code are not replaced", MODE_1 STAND_IN("45"), "a1\a ?\r\n", "31 3 27 23 5 4 25 8 2"},
+    {"a small letter stands in as its capital", MODE_1 STAND_IN("120"), "1~a", "27 23 31 29 3"},
+    {"/ as the stand-in is not held", MODE_1 STAND_IN("47"), "~", "27 29"},
+    {"and begins no command", MODE_1 STAND_IN("47"), "~.T\r\n", "27 29 28 31 16 8 2"},
+    {"a held / before a replaced byte", MODE_1 STAND_IN("45"), "/~", "27 29 3"},
+    {"/ held and / for a replaced byte, then .", MODE_1 STAND_IN("47"), "/~.", "27 29 29 28"},
+    {"SO ~ SO sends both, 77 set", MODE_1 ON("72") STAND_IN("45"), "\016~\016", "27 3 27"},
+    {"SO ~ SO sends one, 77 at 0", MODE_1 ON("72") STAND_IN("0"), "\016~\016", "27"},
+    {"a stand-in takes its shift after a space, 70 on", MODE_1 ON("70") STAND_IN("45"), "~ ~", "27 3 4 31 27 3"},
+    {"an ending before a stand-in", MODE_1 LIMIT_10 STAND_IN("45") TEN, "~", "8 8 2 31 31 27 3"},
+    {"none before a dropped byte", MODE_1 LIMIT_10 TEN, "~", ""},
+    {"a stand-in takes a column", MODE_1 LIMIT_10 STAND_IN("75") "\rABCDEFGHI", "~L", "15 8 8 2 31 31 18"},
+    {"the most codes of a byte, the second replaced",
+     MODE_1 LIMIT_10 ON("71") STRING("27,8,27,8,27,8,27,8") STAND_IN("65") TEN "/", "~",
+     "27 8 31 27 8 31 27 8 31 27 8 31 27 29 31 3"},
+    {"the bytes of a discarded command are no text", MODE_1 STAND_IN("45"), "/.T~%\200\177\r\nA", "31 3"},
+    {"nor is a swallowed LF", MODE_1 STAND_IN("45"), "/.TR,0,0\r\n~", "27 3"},
+    {"a byte replaced after a command's CR, then LF", MODE_1 STAND_IN("45"), "/.TR,0,0\r~\n", "27 3 2"},
+    {"connecting leaves 77", STAND_IN("45"), MODE_1 "~", "27 3"},
+    {"250 puts 77 back to 0", MODE_1 STAND_IN("45") "/.TW,250,0\r", "1~2", "27 23 19"},
+    {"a refused value leaves 77", MODE_1 STAND_IN("45") STAND_IN("37"), "~", "27 3"},
+    {"mode 11 drops all text, 77 set", STAND_IN("45"), "A~", ""},
+    {"mode 4 too", MODE_4 STAND_IN("45"), "A~", ""},
 };
 
 /* TU codes, and the codes that go to the line. */
@@ -162,6 +190,7 @@ static const struct trace tu_lines[] = {
      "8 31 3 3 3 3 3 3 3 3 3 27 5 31 5 8 8 2 31 31 5"},
     {"mode 1 drops TU codes", "/.TW,1,2,4,60\r", "3 27 31", ""},
     {"mode 10 too", "/.TW,10,0\r", "3 27 31", ""},
+    {"77 is not asked of TU codes", MODE_4 STAND_IN("45"), "0 3 27 3", "0 31 3 27 3"},
 };
 
 /* Line codes, and the host bytes. */
@@ -300,6 +329,35 @@ static const struct trace commands[] = {
     {"an error changes nothing", "/.TW,50,1,33\r/.TW,50,1,81\r", "/.TR,50,0", "-.TC,50,1,33"},
     {"250 leaves the connection", "/.TW,4,2,2,66\r/.TW,250,0\r", "/.TR,1,0", "-.TC,4,2,2,66"},
     {"250 puts 90 back", STRING("8,2,0,0,0,0,0,0") "/.TW,250,0\r", "/.TR,90,0", "-.TC,90,8,8,8,2,31,31,0,0,0"},
+    /* the stand-in */
+    {"77 read, factory", "", "/.TR,77,0", "-.TC,77,1,0"},
+    {"77 read", STAND_IN("45"), "/.TR,77,0", "-.TC,77,1,45"},
+    {"77 read, a small letter", STAND_IN("97"), "/.TR,77,0", "-.TC,77,1,97"},
+    {"77, 0", STAND_IN("45"), "/.TW,77,1,0", "-.TC,77,1,0"},
+    {"77, a control without a code", "", "/.TW,77,1,1", "-.TC,255,2,77,5"},
+    {"77, BEL", "", "/.TW,77,1,7", "-.TC,255,2,77,5"},
+    {"77, SO", "", "/.TW,77,1,14", "-.TC,255,2,77,5"},
+    {"77, a space", "", "/.TW,77,1,32", "-.TC,255,2,77,5"},
+    {"77 least", "", "/.TW,77,1,33", "-.TC,77,1,33"},
+    {"77, %", "", "/.TW,77,1,37", "-.TC,255,2,77,5"},
+    {"77, /", "", "/.TW,77,1,47", "-.TC,77,1,47"},
+    {"77 most", "", "/.TW,77,1,122", "-.TC,77,1,122"},
+    {"77, ~", "", "/.TW,77,1,126", "-.TC,255,2,77,5"},
+    {"77, DEL", "", "/.TW,77,1,127", "-.TC,255,2,77,5"},
+    {"77, 128", "", "/.TW,77,1,128", "-.TC,255,2,77,5"},
+    {"77, X", "", "/.TW,77,1,X", "-.TC,255,2,77,5"},
+    {"77 reduced to a byte", "", "/.TW,77,1,301", "-.TC,77,1,45"},
+    {"77 with a checksum", "", "/.TW,77,1,45,123", "-.TC,77,1,45"},
+    {"77, error 4 before 5", "", "/.TW,77,1,37,123", "-.TC,255,2,77,4"},
+    {"77, error 3", "", "/.TW,77,2,45,45", "-.TC,255,2,77,3"},
+    {"77, an error changes nothing", STAND_IN("45") STAND_IN("37"), "/.TR,77,0", "-.TC,77,1,45"},
+    {"250 puts 77 back", STAND_IN("45") "/.TW,250,0\r", "/.TR,77,0", "-.TC,77,1,0"},
+    {"76 is not built", "", "/.TW,76,1,0", "-.TC,255,2,76,2"},
+    {"76 read is not built", "", "/.TR,76,0", "-.TC,255,2,76,2"},
+    {"78 is not built", "", "/.TW,78,1,0", "-.TC,255,2,78,2"},
+    {"78 read is not built", "", "/.TR,78,0", "-.TC,255,2,78,2"},
+    {"79 is not built", "", "/.TW,79,1,0", "-.TC,255,2,79,2"},
+    {"79 read is not built", "", "/.TR,79,0", "-.TC,255,2,79,2"},
 };
 
 /* "ASCII-67 to Baudot-USTTY": row i is for bytes i, 32 + i, 64 + i and 96 + i; L and F after a shift, N without. */
@@ -395,28 +453,77 @@ static void run_find(const struct trace *t) {
   check(good, t->name, t->expected, answer ? shown(bytes + at[0], at[1]) : "none");
 }
 
-/* Each ASCII value as the first text after connecting, with a byte after it that has no code, so that `/` is released. */
-static void run_ascii_table(void) {
+/* The table's entry of a byte. */
+static const char *ascii_entry(int byte) {
+  const char *entry = byte < 128 ? ascii_table[byte % 32] : "--";
+  for (int column = 0; byte < 128 && column < byte / 32; entry++) column += *entry == ' ';
+  return entry;
+}
+
+/* An entry's codes as the first text after connecting, and that of a NUL after it. */
+static void codes_of(const char *entry, char *out) {
+  uint8_t codes[3] = {*entry == 'F' ? 27 : 31, (uint8_t)strtoul(entry + 1, NULL, 10), 0};
+  int from = *entry == '-' ? 2 : *entry == 'N' ? 1 : 0;
+  const char *text = decimals(codes + from, 3 - (uint64_t)from);
+  memcpy(out, text, strlen(text) + 1);
+}
+
+static void three_digits(char *out, int n) {
+  out[0] = (char)('0' + n / 100), out[1] = (char)('0' + n / 10 % 10), out[2] = (char)('0' + n % 10);
+}
+
+/* Each byte as the first text after connecting, with a NUL after it so that `/` is released. `none` is the entry of the
+   stand-in, for bytes without one. */
+static void run_ascii_table(const char *setup, const char *none) {
   unsigned with_code = 0;
   for (int byte = 0; byte < 256; byte++) {
-    uint8_t in[2] = {(uint8_t)byte, 1};
-    char name[] = "ASCII value ...", expected[8] = "";
-    const char *entry = byte < 128 ? ascii_table[byte % 32] : "--";
-    for (int column = 0; byte < 128 && column < byte / 32; entry++) column += *entry == ' ';
-    name[12] = (char)('0' + byte / 100), name[13] = (char)('0' + byte / 10 % 10), name[14] = (char)('0' + byte % 10);
-    if (*entry != '-') {
-      uint8_t codes[2] = {*entry == 'F' ? 27 : 31, (uint8_t)strtoul(entry + 1, NULL, 10)};
-      const char *text = *entry == 'N' ? decimals(codes + 1, 1) : decimals(codes, 2);
-      memcpy(expected, text, strlen(text) + 1);
-      with_code++;
-    }
-    start(MODE_1);
+    uint8_t in[2] = {(uint8_t)byte, 0};
+    char name[] = "ASCII value ...", expected[12];
+    const char *entry = ascii_entry(byte);
+    three_digits(name + 12, byte);
+    codes_of(*entry == '-' ? none : entry, expected);
+    if (*entry != '-') with_code++;
+    start(setup);
     if (byte == 10) host(" "); /* the LF of a command's CR LF is no text */
     linebox_host(state, in, 2, first, ROOM, second, ROOM, done);
     const char *got = decimals(first, done[1]);
     check(done[0] == 2 && strcmp(got, expected) == 0, name, expected, got);
   }
   check(with_code == 84, "ASCII values with a code", "84", "another count");
+}
+
+/* Each value in 77: written by the command, then put into the state's byte 41, and sent for a byte without a code. */
+static void run_stand_ins(void) {
+  static const uint8_t in[2] = {'~', 0};
+  unsigned allowed = 0;
+  for (int value = 0; value < 256; value++) {
+    const char *entry = ascii_entry(value);
+    int good = value == 0 || (value >= 33 && value <= 126 && *entry != '-');
+    char name[] = "77 at ...", command[] = STAND_IN("..."), expected[12];
+    three_digits(name + 6, value);
+    three_digits(command + 10, value);
+    codes_of(value == 0 ? "--" : entry, expected);
+    if (good) allowed++;
+    start(MODE_1);
+    host(command);
+    check(state[41] == (good ? value : 0), name, good ? "written" : "refused", "the other");
+    state[41] = (uint8_t)value;
+    uint32_t answer = linebox_host(state, in, 2, first, ROOM, second, ROOM, done);
+    const char *got = decimals(first, done[1]);
+    if (good) check(answer == 0 && done[0] == 2 && strcmp(got, expected) == 0, name, expected, got);
+    else check(answer == 3 && done[0] == 0 && done[1] == 0 && state[41] == value, name, "3: 0 0 0", got);
+    answer = linebox_line(state, NULL, 0, NULL, 0, NULL, 0, done);
+    check(answer == (good ? 0 : 3), name, good ? "a line call's 0" : "a line call's 3", "another");
+    answer = linebox_tu(state, NULL, 0, NULL, 0, done);
+    check(answer == (good ? 0 : 3), name, good ? "a TU call's 0" : "a TU call's 3", "another");
+  }
+  check(allowed == 78, "values that 77 may have", "78", "another count");
+  start(MODE_1 STAND_IN("45"));
+  for (uint64_t room = 0; room < 3; room++) {
+    uint32_t answer = linebox_host(state, in, 1, first, room, NULL, 0, done);
+    check(answer == (room < 2) && done[0] == room / 2 && done[1] == room / 2 * 2, "a stand-in needs room",
+          "1: 0 0, then 0: 1 2", "another");
+  }
 }
 
 static void run_baudot_table(void) {
@@ -452,6 +559,13 @@ static void run_answers(void) {
   check(answer == 1 && done[0] == 1 && done[1] == 1, "no room before a 32", "1: 1 1 0", "another");
   answer = linebox_tu(state, (const uint8_t[]){1, 255}, 2, NULL, 0, done);
   check(answer == 2 && done[0] == 1 && done[1] == 0, "a TU code of 255 in mode 1", "2: 1 0", "another");
+  for (int at = 38; at < LINEBOX_STATE; at++) {
+    if (at == 41) continue;
+    state[at] = 1;
+    answer = linebox_host(state, NULL, 0, NULL, 0, NULL, 0, done);
+    check(answer == 3 && state[at] == 1, "each spare byte of 1", "3", "another");
+    state[at] = 0;
+  }
   state[127] = 1;
   done[0] = done[1] = done[2] = 7;
   answer = linebox_host(state, (const uint8_t *)"A", 1, first, ROOM, second, ROOM, done);
@@ -496,7 +610,9 @@ int main(void) {
   EACH(line_lines, run_line_line);
   EACH(commands, run_command);
   EACH(finds, run_find);
-  run_ascii_table();
+  run_ascii_table(MODE_1, "--");
+  run_ascii_table(MODE_1 STAND_IN("45"), "F3");
+  run_stand_ins();
   run_baudot_table();
   run_answers();
   run_typed();

@@ -16,7 +16,7 @@ enum { UNKNOWN, LETTERS, FIGURES };                /* a case; as the last item: 
 enum { FIGS = 27, LTRS = 31 };
 enum { MOST = 40 }; /* one byte never makes more than this many codes or host bytes */
 
-/* The state, in the order of its published offsets 0 to 37; offsets 38 to 127 hold 0. */
+/* The state, in the order of its published offsets 0 to 41; offsets 42 to 127 hold 0. */
 enum { FIELDS = 11 };
 struct box {
   uint8_t endings, limit, on_space, on_return, filter, report, string[8]; /* 49, 50, 70, 71, 72, 74, 90 */
@@ -25,9 +25,12 @@ struct box {
   uint8_t last, reading, incoming;
   uint8_t stage, note, form, count; /* the command reader */
   uint8_t field[FIELDS];
+  uint8_t unused[3]; /* 0 */
+  uint8_t stand_in;  /* 77: what text bytes without a code are replaced by, 0 if they are dropped */
 };
-_Static_assert(sizeof(struct box) == 38 && offsetof(struct box, mode) == 14 && offsetof(struct box, printer) == 17 &&
-                   offsetof(struct box, stage) == 23 && offsetof(struct box, field) == 27,
+_Static_assert(sizeof(struct box) == 42 && offsetof(struct box, mode) == 14 && offsetof(struct box, printer) == 17 &&
+                   offsetof(struct box, stage) == 23 && offsetof(struct box, field) == 27 &&
+                   offsetof(struct box, stand_in) == 41,
                "the published offsets");
 
 /* The stages of the command reader. `note` is in LETTER_1 whether the letter is small, later the type; `form` is in
@@ -167,9 +170,13 @@ static inline uint8_t *text(struct box *box, uint8_t *out, uint8_t byte) {
     SEEN(NOT_CARRIED);
     return out;
   }
-  if (c.kind == NO_CODE) {
-    SEEN(DROPPED);
-    return out;
+  if (__builtin_expect(c.kind == NO_CODE, 0)) { /* seldom: text with a code goes straight on */
+    if (box->stand_in == 0) {
+      SEEN(DROPPED);
+      return out;
+    }
+    SEEN(REPLACED);
+    c = of_byte[box->stand_in];
   }
   return item(box, out, c.code, c.kind);
 }
@@ -189,7 +196,7 @@ static inline uint8_t *tu_code(struct box *box, uint8_t *out, uint8_t code) {
 
 /* ---- Settings and messages ---- */
 
-static const uint8_t factory[14] = {0, 72, 0, 0, 0, 0, 8, 8, 2, 31, 31, 0, 0, 0};
+static const uint8_t factory[14] = {0, 72, 0, 0, 0, 0, 8, 8, 2, 31, 31, 0, 0, 0}; /* and 77 is 0 */
 
 static int is_speed(uint8_t n) { return n == 60 || n == 66 || n == 75 || n == 100; }
 
@@ -206,6 +213,9 @@ static int is_string(const uint8_t s[8]) {
   return before < length && s[before] == 8;
 }
 
+/* Setting 77: 0, or an ASCII value from 33 to 126 that has a code. */
+static int is_stand_in(uint8_t n) { return n == 0 || (n >= 33 && n <= 126 && of_byte[n].kind != NO_CODE); }
+
 /* Where a setting of one value is kept, or none. */
 static uint8_t *setting(struct box *box, uint8_t id) {
   switch (id) {
@@ -215,6 +225,7 @@ static uint8_t *setting(struct box *box, uint8_t id) {
   case 71: return &box->on_return;
   case 72: return &box->filter;
   case 74: return &box->report;
+  case 77: return &box->stand_in;
   default: return NULL;
   }
 }
@@ -226,7 +237,7 @@ static int parameters(uint8_t type, uint8_t id) {
   case 1: return type == TR ? 0 : 2;
   case 4: return type == TR ? -1 : 2;
   case 10: case 11: case 250: return type == TR ? -1 : 0;
-  case 49: case 50: case 70: case 71: case 72: case 74: return type == TR ? 0 : 1;
+  case 49: case 50: case 70: case 71: case 72: case 74: case 77: return type == TR ? 0 : 1;
   case 90: return type == TR ? 0 : 8;
   default: return -1;
   }
@@ -238,6 +249,7 @@ static int in_range(uint8_t id, const uint8_t *value) {
   case 4: return value[0] >= 1 && value[0] <= 3 && is_speed(value[1]);
   case 49: case 70: case 71: case 72: case 74: return value[0] <= 1;
   case 50: return value[0] >= 10 && value[0] <= 80;
+  case 77: return is_stand_in(value[0]);
   case 90: return is_string(value);
   default: return 1;
   }
@@ -295,8 +307,10 @@ static uint8_t *write_command(struct box *box, uint8_t *out, uint8_t id, uint8_t
   } else if (id == 250) {
     SEEN(FACTORY);
     memcpy(box, factory, sizeof factory);
+    box->stand_in = 0;
   } else {
     SEEN(SETTING_WRITTEN);
+    if (id == 77 && value[0] != 0) SEEN(STAND_IN_WRITTEN);
     *setting(box, id) = value[0];
   }
   return message(out, id, count, value);
@@ -333,6 +347,7 @@ static uint8_t *obey(struct box *box, uint8_t *out) {
   if (type == TR) return read_command(box, out, id);
   if (!in_range(id, field + 2)) {
     SEEN(ERROR_5);
+    if (id == 77) SEEN(STAND_IN_REFUSED);
     return error(out, id, 5);
   }
   return write_command(box, out, id, (uint8_t)count, field + 2);
@@ -463,6 +478,7 @@ static int load(struct box *box, const uint8_t state[MODEL_STATE]) {
   memcpy(box, state, sizeof *box);
   for (uint64_t i = sizeof *box; i < MODEL_STATE; i++)
     if (state[i] != 0) return 0;
+  if (box->unused[0] != 0 || box->unused[1] != 0 || box->unused[2] != 0 || !is_stand_in(box->stand_in)) return 0;
   return box->endings <= 1 && box->limit >= 10 && box->limit <= 80 && box->on_space <= 1 && box->on_return <= 1 &&
          box->filter <= 1 && box->report <= 1 && is_string(box->string) && is_connection(box) && box->printer <= 2 &&
          box->known <= 1 && (box->known || box->column == 0) && box->last <= 2 && box->reading >= 1 &&

@@ -28,6 +28,7 @@ uint32_t model_find(const uint8_t *bytes, uint64_t len, uint64_t at[2]);
   EVENT(COLUMN_255, "moves at column 255")                                                                              \
   EVENT(INCOMING_BACK, "incoming case back to letters")                                                                 \
   EVENT(DROPPED, "host bytes without a code dropped")                                                                   \
+  EVENT(REPLACED, "host bytes without a code replaced by the stand-in")                                                 \
   EVENT(NOT_CARRIED, "text or codes that the mode does not carry")                                                      \
   EVENT(SLASH_TEXT, "/ released as text")                                                                               \
   EVENT(SLASH_AGAIN, "/ ending a command")                                                                              \
@@ -41,8 +42,10 @@ uint32_t model_find(const uint8_t *bytes, uint64_t len, uint64_t at[2]);
   EVENT(ERROR_3, "error 3")                                                                                             \
   EVENT(ERROR_4, "error 4")                                                                                             \
   EVENT(ERROR_5, "error 5")                                                                                             \
+  EVENT(STAND_IN_REFUSED, "error 5 for a stand-in")                                                                     \
   EVENT(READ_DONE, "reads answered")                                                                                    \
   EVENT(SETTING_WRITTEN, "settings written")                                                                            \
+  EVENT(STAND_IN_WRITTEN, "stand-ins written")                                                                          \
   EVENT(STRING_WRITTEN, "string 90 written")                                                                            \
   EVENT(CONNECTED, "connections written")                                                                               \
   EVENT(FACTORY, "settings back to factory")                                                                            \
