@@ -2,7 +2,7 @@
 -- Assumes nothing.
 use Prim.Native.Nat.{ℕ}
 use mathlib.Core.Path.{_≡_, refl}
-use mathlib.Core.Bool.{Bool, true, false, cond, _&&_, _||_, false≢true}
+use mathlib.Core.Bool.{Bool, true, false, cond, _&&_, _||_, false≢true, true≢false}
 use lib.Dec.{eqb, leb}
 use borrow.Author.Tests.{eq-eqb, ne-eqb}
 use Rattle.laws.proofs.Both.{both}
@@ -12,6 +12,19 @@ use Rattle.settings.specs.Options.{standIn}
 use Rattle.settings.proofs.Held.{stand-in-sound}
 use Rattle.sender.specs.Names.{Conversion, Nothing, Free, Cased, Settings}
 use Rattle.sender.specs.Item.{standing, orElse, spoken}
+use Rattle.sender.specs.Run.{isNone}
+
+-- a byte without a code is the stand-in
+pub stood-in : (x other : Conversion) → isNone x ≡ true → orElse x other ≡ other
+stood-in Nothing other h = refl
+stood-in (Free c) other h = absurd (false≢true h)
+stood-in (Cased case c) other h = absurd (false≢true h)
+
+-- and any other is itself
+pub spoken-itself : (x other : Conversion) → isNone x ≡ false → orElse x other ≡ x
+spoken-itself Nothing other h = absurd (true≢false h)
+spoken-itself (Free c) other h = refl
+spoken-itself (Cased case c) other h = refl
 
 -- what a test of two parts says where its first part fails
 second : (a b : Bool) → a ≡ false → (a || b) ≡ true → b ≡ true

@@ -5,7 +5,7 @@ ghost use lib.Dec.{leb};
 ghost use lib.ListN.{length};
 ghost use Rattle.convert.specs.Entry.{Tabled};
 ghost use Rattle.settings.specs.Options.{endingCodes};
-ghost use Rattle.sender.specs.Item.{items, wantedOf, standing, orElse, converted};
+ghost use Rattle.sender.specs.Item.{items, wantedOf, standing, spoken, converted};
 ghost use Rattle.sender.specs.Run.{isNone, wantedAs, asksNext, caseAsked, stopsAt, PutsItems, most, runOf, SendsRun};
 use crate::Asks;
 use crate::Item;
@@ -53,24 +53,25 @@ fn standing(o: Settings, table: &[u8]) -> Conversion
     convert::look_up(table, b)
 }
 
-// A conversion, or where that is nothing the other.
-fn or_else(x: Conversion, other: Conversion) -> Conversion
-    ensures { λ r. ⌜ r ≡ orElse x other ⌝ }
+// What a byte of text is on the line by the table lent: the stand-in is looked up for a byte without a code alone.
+fn speak(o: Settings, table: &[u8], b: u8) -> Conversion
+    requires { ⌜ Tabled (now table) ⌝ }
+    ensures { λ r. ⌜ r ≡ spoken o b ⌝ }
 {
-    match x {
-        Conversion::Nothing => other,
-        Conversion::Free(_) => x,
-        Conversion::Cased(_, _) => x,
+    let own = convert::look_up(table, b);
+    if is_none(own) {
+        return standing(o, table);
     }
+    own
 }
 
-// What a byte stands for: text by the table lent or as the stand-in, a TU code in the incoming reading case.
-fn convert_as(o: Settings, asks: Asks, table: &[u8], other: Conversion, b: u8) -> Conversion
-    requires { ⌜ Tabled (now table) × (other ≡ standing o) ⌝ }
+// What a byte stands for: text by the table lent, a TU code in the incoming reading case.
+fn convert_as(o: Settings, asks: Asks, table: &[u8], b: u8) -> Conversion
+    requires { ⌜ Tabled (now table) ⌝ }
     ensures { λ r. ⌜ r ≡ converted o asks b ⌝ }
 {
     match asks {
-        Asks::Text => or_else(convert::look_up(table, b), other),
+        Asks::Text => speak(o, table, b),
         Asks::Codes(case) => Conversion::Cased(case, b),
     }
 }
@@ -168,7 +169,6 @@ pub fn send(
         ⌝ }
 {
     let table = convert::table();
-    let other = standing(o, &table);
     let mut sender = start;
     let mut asks = first;
     let mut taken = 0;
@@ -181,7 +181,7 @@ pub fn send(
         if !has_room(o, out.len() - count) {
             return sent(sender, asks, taken, count);
         }
-        let x = convert_as(o, asks, &table, other, b);
+        let x = convert_as(o, asks, &table, b);
         let y = put_asked(o, sender, x, &mut out[count..]);
         asks = next_asks(o, asks, b);
         sender = y.sender;

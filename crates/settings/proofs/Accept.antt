@@ -13,30 +13,49 @@ use Rattle.settings.specs.Names.takes
 use Rattle.settings.specs.Names.fault
 use Rattle.laws.proofs.Both.{both}
 use Rattle.settings.specs.Table.{row, takenBy}
-use Rattle.settings.specs.Command.{checked, fitting, ranged, faultIn, faultOf, numberOf, succeeded, refused, answered, wrong, commanded}
+use Rattle.settings.specs.Command.{checked, fitting, ranged, faultIn, faultOf, jointly, numberOf, succeeded, refused, answered, wrong, commanded}
 
--- the id takes n parameters, n is the number field, and the values are in their range, with the settings that they would make
-pub record Accepted (t : Takes) (v : Verb) (r : Row) (fields : List ℕ) (next : Settings) : Type 0 where
+-- the id takes n parameters, n is the number field, and the values are in their range
+pub record Accepted (t : Takes) (v : Verb) (r : Row) (fields : List ℕ) : Type 0 where
   pub n : ℕ
   pub takes : t ≡ Count n
   pub number : getD fields 1 0 ≡ n
-  pub inside : ranged v r fields next ≡ true
+  pub inside : ranged v r fields ≡ true
 
-accepted-in : (t : Takes) (v : Verb) (r : Row) (count : ℕ) (fields : List ℕ) (next : Settings) → faultIn t v r count fields next ≡ fault.Nothing → Accepted t v r fields next
-accepted-in takes.Nothing v r count fields next e = absurd (omega (arith, ap numberOf e))
-accepted-in (Count n) v r count fields next e = go (fitting n count fields) refl (checked n count fields) (ranged v r fields next) refl e
+accepted-in : (t : Takes) (v : Verb) (r : Row) (count : ℕ) (fields : List ℕ) → faultIn t v r count fields ≡ fault.Nothing → Accepted t v r fields
+accepted-in takes.Nothing v r count fields e = absurd (omega (arith, ap numberOf e))
+accepted-in (Count n) v r count fields e = go (fitting n count fields) refl (checked n count fields) (ranged v r fields) refl e
   where
-    go : (a : Bool) → fitting n count fields ≡ a → (b d : Bool) → ranged v r fields next ≡ d → cond a (cond b (cond d fault.Nothing fault.Range) fault.Checksum) fault.Parameters ≡ fault.Nothing → Accepted (Count n) v r fields next
+    go : (a : Bool) → fitting n count fields ≡ a → (b d : Bool) → ranged v r fields ≡ d → cond a (cond b (cond d fault.Nothing fault.Range) fault.Checksum) fault.Parameters ≡ fault.Nothing → Accepted (Count n) v r fields
     go true p true true q e = record { n = n; takes = refl; number = eqb-true (getD fields 1 0) n (both (eqb (getD fields 1 0) n) _ p .0); inside = q }
     go true p true false q e = absurd (omega (arith, ap numberOf e))
     go true p false d q e = absurd (omega (arith, ap numberOf e))
     go false p b d q e = absurd (omega (arith, ap numberOf e))
 
 -- a command without error
-pub accepted : (v : Verb) (r : Row) (count : ℕ) (fields : List ℕ) (next : Settings) → faultOf v r count fields next ≡ fault.Nothing → Accepted (takenBy v r) v r fields next
-accepted Write r count fields next e = accepted-in (takenBy Write r) Write r count fields next e
-accepted Read r count fields next e = accepted-in (takenBy Read r) Read r count fields next e
-accepted Other r count fields next e = absurd (omega (arith, ap numberOf e))
+pub accepted : (v : Verb) (r : Row) (count : ℕ) (fields : List ℕ) → faultOf v r count fields ≡ fault.Nothing → Accepted (takenBy v r) v r fields
+accepted Write r count fields e = accepted-in (takenBy Write r) Write r count fields e
+accepted Read r count fields e = accepted-in (takenBy Read r) Read r count fields e
+accepted Other r count fields e = absurd (omega (arith, ap numberOf e))
+
+-- nothing is wrong where there is no other error, and the values go together
+pub judged : (f : Fault) (together : Bool) → jointly f together ≡ fault.Nothing → (f ≡ fault.Nothing) × (together ≡ true)
+judged fault.Nothing true e = (refl, refl)
+judged fault.Nothing false e = absurd (omega (arith, ap numberOf e))
+judged fault.Type together e = absurd (omega (arith, ap numberOf e))
+judged fault.Id together e = absurd (omega (arith, ap numberOf e))
+judged fault.Parameters together e = absurd (omega (arith, ap numberOf e))
+judged fault.Checksum together e = absurd (omega (arith, ap numberOf e))
+judged fault.Range together e = absurd (omega (arith, ap numberOf e))
+
+-- any other error goes first
+pub unjudged : (f : Fault) (together : Bool) → (f ≡ fault.Nothing → ⊥) → jointly f together ≡ f
+unjudged fault.Nothing together h = absurd (h refl)
+unjudged fault.Type together h = refl
+unjudged fault.Id together h = refl
+unjudged fault.Parameters together h = refl
+unjudged fault.Checksum together h = refl
+unjudged fault.Range together h = refl
 
 module _ (s : Settings) (c : Connection) (v : Verb) (count : ℕ) (fields : List ℕ) where
   -- a command without error succeeds
@@ -45,14 +64,11 @@ module _ (s : Settings) (c : Connection) (v : Verb) (count : ℕ) (fields : List
   success h = rw h
 
   -- an error changes nothing, and answers its number
-  pub refusal : (wrong s c v count fields ≡ fault.Nothing → ⊥) → commanded s c v count fields ≡ refused s c (getD fields 0 0) (wrong s c v count fields)
+  pub refusal : (f : Fault) → wrong s c v count fields ≡ f → (f ≡ fault.Nothing → ⊥) → commanded s c v count fields ≡ refused s c (getD fields 0 0) f
   unfolding commanded
-  refusal = go (wrong s c v count fields)
-    where
-      go : (f : Fault) → (f ≡ fault.Nothing → ⊥) → answered f s c v (row (getD fields 0 0)) fields ≡ refused s c (getD fields 0 0) f
-      go fault.Nothing h = absurd (h refl)
-      go fault.Type h = refl
-      go fault.Id h = refl
-      go fault.Parameters h = refl
-      go fault.Checksum h = refl
-      go fault.Range h = refl
+  refusal fault.Nothing e h = absurd (h refl)
+  refusal fault.Type e h = rw e
+  refusal fault.Id e h = rw e
+  refusal fault.Parameters e h = rw e
+  refusal fault.Checksum e h = rw e
+  refusal fault.Range e h = rw e

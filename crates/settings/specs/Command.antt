@@ -25,25 +25,34 @@ checked n count fields = eqb count (n + 2) || eqb (sum (take (n + 2) fields) % 2
 abbrev pub fitting : ℕ → ℕ → List ℕ → Bool
 fitting n count fields = eqb (getD fields 1 0) n && (eqb count (n + 2) || eqb count (n + 3))
 
--- the values are in their range, and the settings that a write would store have a sound stand-in; a read has no value to be out of range
-abbrev pub ranged : Verb → Row → List ℕ → Settings → Bool
-ranged Write r fields next = inRange (r .home) (drop 2 fields) && soundStandIn next
-ranged Read r fields next = true
-ranged Other r fields next = true
+-- a read has no value to be out of range
+abbrev pub ranged : Verb → Row → List ℕ → Bool
+ranged Write r fields = inRange (r .home) (drop 2 fields)
+ranged Read r fields = true
+ranged Other r fields = true
 
 -- of a command whose id takes so many parameters: those first, then the checksum, then the range
-abbrev pub faultIn : Takes → Verb → Row → ℕ → List ℕ → Settings → Fault
-faultIn takes.Nothing v r count fields next = fault.Id
-faultIn (Count n) v r count fields next =
+abbrev pub faultIn : Takes → Verb → Row → ℕ → List ℕ → Fault
+faultIn takes.Nothing v r count fields = fault.Id
+faultIn (Count n) v r count fields =
     cond (fitting n count fields)
-    (cond (checked n count fields) (cond (ranged v r fields next) fault.Nothing fault.Range) fault.Checksum)
+    (cond (checked n count fields) (cond (ranged v r fields) fault.Nothing fault.Range) fault.Checksum)
     fault.Parameters
 
--- type first, then id; of a command that would store these settings
-abbrev pub faultOf : Verb → Row → ℕ → List ℕ → Settings → Fault
-faultOf Other r count fields next = fault.Type
-faultOf Write r count fields next = faultIn (takenBy Write r) Write r count fields next
-faultOf Read r count fields next = faultIn (takenBy Read r) Read r count fields next
+-- type first, then id
+abbrev pub faultOf : Verb → Row → ℕ → List ℕ → Fault
+faultOf Other r count fields = fault.Type
+faultOf Write r count fields = faultIn (takenBy Write r) Write r count fields
+faultOf Read r count fields = faultIn (takenBy Read r) Read r count fields
+
+-- where nothing else is wrong, a value is out of range that does not go together with the settings
+abbrev pub jointly : Fault → Bool → Fault
+jointly fault.Nothing together = cond together fault.Nothing fault.Range
+jointly fault.Type together = fault.Type
+jointly fault.Id together = fault.Id
+jointly fault.Parameters together = fault.Parameters
+jointly fault.Checksum together = fault.Checksum
+jointly fault.Range together = fault.Range
 
 -- the numbers of the errors
 abbrev pub numberOf : Fault → ℕ
@@ -139,9 +148,9 @@ answered fault.Parameters s c v r fields = refused s c (getD fields 0 0) fault.P
 answered fault.Checksum s c v r fields = refused s c (getD fields 0 0) fault.Checksum
 answered fault.Range s c v r fields = refused s c (getD fields 0 0) fault.Range
 
--- what is wrong with a command of `count` fields, of which the first is the id
+-- what is wrong with a command of `count` fields, of which the first is the id; the settings that it would store have a sound stand-in
 abbrev pub wrong : Settings → Connection → Verb → ℕ → List ℕ → Fault
-wrong s c v count fields = let r = row (getD fields 0 0) in faultOf v r count fields (obey s c v r (drop 2 fields) .settings)
+wrong s c v count fields = let r = row (getD fields 0 0) in jointly (faultOf v r count fields) (soundStandIn (obey s c v r (drop 2 fields) .settings))
 
 -- a finished command
 unfoldable pub commanded : Settings → Connection → Verb → ℕ → List ℕ → Outcome

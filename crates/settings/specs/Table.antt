@@ -181,9 +181,13 @@ hasCode Nothing = false
 hasCode (Free c) = true
 hasCode (Cased case c) = true
 
--- option 77 is 0, or from 33 on and has a code; it ends with its row, at 126
+-- 0, or from 33 on (the row of 77 ends at 126) with a code
+abbrev pub isStandIn : ℕ → Bool
+isStandIn b = eqb b 0 || (leb 33 b && hasCode (conversion b))
+
+-- option 77 is such a value
 unfoldable pub soundStandIn : Settings → Bool
-soundStandIn s = eqb (valueOf s 77) 0 || (leb 33 (valueOf s 77) && hasCode (conversion (valueOf s 77)))
+soundStandIn s = isStandIn (valueOf s 77)
 
 -- and string 90 with its eight codes, by its rules
 unfoldable pub soundSettings : Settings → Bool

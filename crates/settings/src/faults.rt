@@ -2,12 +2,10 @@
 ghost use mathlib.Core.Path.{_≡_};
 ghost use Prim.Native.Nat.{_%_};
 ghost use lib.ListN.{getD, take, drop};
-ghost use Rattle.settings.specs.Command.{sum, checked, fitting, ranged, faultIn, faultOf, numberOf};
+ghost use Rattle.settings.specs.Command.{sum, checked, fitting, ranged, faultIn, faultOf, jointly, numberOf};
 use crate::Fault;
 use crate::Row;
-use crate::Settings;
 use crate::Takes;
-use crate::sound::stand_in_sound;
 use crate::table::in_range;
 use crate::table::taken_by;
 use command::Verb;
@@ -67,28 +65,28 @@ pub fn parameters(fields: [u8; 11]) -> [u8; 9]
     ]
 }
 
-// Whether the values are in their range, and the settings that would be stored have a sound stand-in.
-fn is_ranged(v: Verb, r: Row, fields: [u8; 11], next: Settings) -> bool
-    ensures { λ q. ⌜ q ≡ ranged v r fields next ⌝ }
+// Whether the values are in their range.
+fn is_ranged(v: Verb, r: Row, fields: [u8; 11]) -> bool
+    ensures { λ q. ⌜ q ≡ ranged v r fields ⌝ }
 {
     let home = r.home;
     match v {
-        Verb::Write => in_range(home, parameters(fields)) & stand_in_sound(next),
+        Verb::Write => in_range(home, parameters(fields)),
         Verb::Read => true,
         Verb::Other => true,
     }
 }
 
 // What is wrong with a command whose id takes so many parameters.
-fn fault_in(taken: Takes, v: Verb, r: Row, count: u8, fields: [u8; 11], next: Settings) -> Fault
-    ensures { λ q. ⌜ q ≡ faultIn taken v r count fields next ⌝ }
+fn fault_in(taken: Takes, v: Verb, r: Row, count: u8, fields: [u8; 11]) -> Fault
+    ensures { λ q. ⌜ q ≡ faultIn taken v r count fields ⌝ }
 {
     match taken {
         Takes::Nothing => Fault::Id,
         Takes::Count(n) => {
             let fits = is_fitting(n, count, fields);
             let checks = is_checked(n, count, fields);
-            let ranges = is_ranged(v, r, fields, next);
+            let ranges = is_ranged(v, r, fields);
             if !fits {
                 return Fault::Parameters;
             }
@@ -103,14 +101,28 @@ fn fault_in(taken: Takes, v: Verb, r: Row, count: u8, fields: [u8; 11], next: Se
     }
 }
 
-// What is wrong with a command that would store these settings.
-pub fn fault_of(v: Verb, r: Row, count: u8, fields: [u8; 11], next: Settings) -> Fault
-    ensures { λ q. ⌜ q ≡ faultOf v r count fields next ⌝ }
+// What is wrong with a command.
+pub fn fault_of(v: Verb, r: Row, count: u8, fields: [u8; 11]) -> Fault
+    ensures { λ q. ⌜ q ≡ faultOf v r count fields ⌝ }
 {
     if let Verb::Other = v {
         return Fault::Type;
     }
-    fault_in(taken_by(v, r), v, r, count, fields, next)
+    fault_in(taken_by(v, r), v, r, count, fields)
+}
+
+// What is wrong, where a value also has to go together with the settings.
+pub fn jointly(f: Fault, together: bool) -> Fault
+    ensures { λ r. ⌜ r ≡ jointly f together ⌝ }
+{
+    if let Fault::Nothing = f {
+        return if together {
+            Fault::Nothing
+        } else {
+            Fault::Range
+        };
+    }
+    f
 }
 
 // The number of an error.

@@ -2,16 +2,19 @@
 ghost use mathlib.Core.Path.{_≡_};
 ghost use mathlib.Core.Bool.{_&&_};
 ghost use Rattle.settings.specs.Table.{factory, soundSettings, soundConnection};
-ghost use Rattle.settings.specs.Command.{refused, commanded};
+ghost use Rattle.settings.specs.Command.{succeeded, refused, commanded};
 use answer::read_out;
 use answer::two;
 use command::Verb;
 use faults::fault_of;
+use faults::jointly;
 use faults::number_of;
 use faults::parameters;
 use sound::connection_sound;
+use sound::is_stand_in;
 use sound::settings_sound;
 use store::keep;
+use store::next_stand_in;
 use store::obey;
 use table::row;
 
@@ -110,17 +113,23 @@ fn refuse(s: Settings, c: Connection, id: u8, f: Fault) -> Outcome
     two(keep(s, c), 255, id, number_of(f))
 }
 
+// A command without error.
+fn succeed(s: Settings, c: Connection, v: Verb, r: Row, fields: [u8; 11]) -> Outcome
+    ensures { λ q. ⌜ q ≡ succeeded s c v r fields ⌝ }
+{
+    read_out(obey(s, c, v, r, parameters(fields)), r)
+}
+
 // What a finished command of `count` fields does and answers.
 pub fn run(s: Settings, c: Connection, v: Verb, count: u8, fields: [u8; 11]) -> Outcome
     ensures { λ r. ⌜ r ≡ commanded s c v count fields ⌝ }
 {
     let id = fields[0];
     let r = row(id);
-    let stored = obey(s, c, v, r, parameters(fields));
-    let next = stored.settings;
-    let f = fault_of(v, r, count, fields, next);
+    let together = is_stand_in(next_stand_in(s, v, r, parameters(fields)));
+    let f = jointly(fault_of(v, r, count, fields), together);
     if let Fault::Nothing = f {
-        return read_out(stored, r);
+        return succeed(s, c, v, r, fields);
     }
     refuse(s, c, id, f)
 }

@@ -3,7 +3,7 @@ ghost use mathlib.Core.Path.{_≡_};
 ghost use mathlib.Core.List.{_∷_};
 ghost use lib.ListN.{replicate};
 ghost use Rattle.code.specs.Convert.{conversion};
-ghost use Rattle.settings.specs.Table.{inRange, row, options, allIn, hasCode, soundStandIn, soundSettings, soundLink, soundConnection};
+ghost use Rattle.settings.specs.Table.{inRange, row, options, allIn, hasCode, isStandIn, soundStandIn, soundSettings, soundLink, soundConnection};
 use crate::Connection;
 use crate::Home;
 use crate::Settings;
@@ -44,11 +44,10 @@ fn has_code(b: u8) -> bool
     }
 }
 
-// Whether the stand-in is 0, or from 33 on and has a code.
-pub fn stand_in_sound(s: Settings) -> bool
-    ensures { λ r. ⌜ r ≡ soundStandIn s ⌝ }
+// Whether a value is 0, or from 33 on with a code.
+pub fn is_stand_in(b: u8) -> bool
+    ensures { λ r. ⌜ r ≡ isStandIn b ⌝ }
 {
-    let b = s.stand_in();
     if b == 0 {
         return true;
     }
@@ -56,6 +55,13 @@ pub fn stand_in_sound(s: Settings) -> bool
         return false;
     }
     has_code(b)
+}
+
+// Whether option 77 is such a value.
+fn stand_in_sound(s: Settings) -> bool
+    ensures { λ r. ⌜ r ≡ soundStandIn s ⌝ }
+{
+    is_stand_in(s.stand_in())
 }
 
 // Whether the settings are in the table's ranges.

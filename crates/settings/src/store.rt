@@ -1,5 +1,10 @@
 // What a write stores.
 ghost use mathlib.Core.Path.{_≡_};
+ghost use Prim.Native.Nat.{ℕ};
+ghost use mathlib.Core.List.{List};
+ghost use lib.ListN.{getD};
+ghost use Rattle.settings.specs.Names.{Connection as Names·Connection};
+ghost use Rattle.settings.specs.Options.{standIn};
 ghost use Rattle.settings.specs.Command.{kept, joined, withValue, withString, link, store, obey};
 use crate::Connection;
 use crate::Home;
@@ -74,6 +79,35 @@ fn store(s: Settings, c: Connection, home: Home, n: u8, ps: [u8; 9]) -> Stored
         Home::String => keep(s.with_string(first_eight(ps)), c),
         Home::Factory => keep(crate::factory(), c),
         Home::Nowhere => keep(s, c),
+    }
+}
+
+// What option 77 is once a write is stored: the first parameter where that is its place, 0 where all settings go to factory.
+fn stored_stand_in(s: Settings, home: Home, first: u8) -> u8
+    ensures { λ r. ⌜ ((c : Names·Connection) (n : ℕ) (ps : List ℕ) → first ≡ getD ps 0 0 → r ≡ standIn (store s c home n ps .settings)) ⌝ }
+{
+    let now = s.stand_in();
+    match home {
+        Home::Version => now,
+        Home::Linked(_) => now,
+        Home::Unlinked => now,
+        Home::Value(place, _, _) => { if place == 6 { first } else { now } }
+        Home::String => now,
+        Home::Factory => 0,
+        Home::Nowhere => now,
+    }
+}
+
+// What option 77 is once a command is stored.
+pub fn next_stand_in(s: Settings, v: Verb, r: Row, ps: [u8; 9]) -> u8
+    ensures { λ q. ⌜ ((c : Names·Connection) → q ≡ standIn (obey s c v r ps .settings)) ⌝ }
+{
+    let home = r.home;
+    let now = s.stand_in();
+    match v {
+        Verb::Write => stored_stand_in(s, home, ps[0]),
+        Verb::Read => now,
+        Verb::Other => now,
     }
 }
 

@@ -1,9 +1,11 @@
--- `settings::run` meets its contract: where there is no fault it succeeds as `succeeded` says, and any other is refused.
+-- `settings::run` meets its contract: where there is no fault and the stand-in is sound it succeeds as `succeeded` says, and any other is refused.
 -- Assumes nothing.
 use mathlib.Core.Path.{sym, _∙_}
 use mathlib.Core.List.{[], _∷_}
 use types.Run.{miss}
 use borrow.Author.Needs.{needs}
+use Rattle.settings.specs.Table.{soundStandIn}
+use Rattle.settings.specs.Options.{standIn}
 use Rattle.settings.proofs.Accept.{success, refusal}
 use Rattle.settings.proofs.run.Statement.{statement}
 use Rattle.settings.proofs.run.Tie as tie
@@ -17,40 +19,54 @@ row-requires c κs = search needs
 parameters-requires : tie.Need-parameters-requires
 parameters-requires c κs = search needs
 
-obey-requires : tie.Need-obey-requires
-obey-requires c κs = search needs
+next-stand-in-requires : tie.Need-next-stand-in-requires
+next-stand-in-requires c κs = search needs
+
+is-stand-in-requires : tie.Need-is-stand-in-requires
+is-stand-in-requires c κs = search needs
 
 fault-of-requires : tie.Need-fault-of-requires
 fault-of-requires c κs = search needs
 
+jointly-requires : tie.Need-jointly-requires
+jointly-requires c κs = search needs
+
 enum-told : tie.Need-enum-told
 enum-told c = search needs
 
-read-out-requires : tie.Need-read-out-requires
-read-out-requires c κs = search needs
+succeed-requires : tie.Need-succeed-requires
+succeed-requires c κs = search needs
 
 returns : tie.Need-returns
+unfolding soundStandIn standIn
 returns c =
-    let f = c .before .before .before in
-    let o = f .before .before in
-    let a = o .before .before .before .args in
-    let r = o .before .before .row .ensures in
-    let m = rw (o .before .parameters .ensures, r) at (o .obey .ensures) in
-    let e = rw (r, m) at (f .fault-of .ensures) in
-    rw (c .read-out .ensures, m, r, success (a .s) (a .c) (a .v) (a .count) (a .t5) (sym e ∙ c .before .enum-told .given .1))
+    let g = c .before .before .before in
+    let f = g .before in
+    let i = f .before in
+    let p = i .before .before in
+    let a = p .before .before .args in
+    let r = p .before .row .ensures in
+    let n = rw (r, p .parameters .ensures) at (i .before .next-stand-in .ensures (a .c)) in
+    let t = rw n at (i .is-stand-in .ensures) in
+    let e = rw (f .fault-of .ensures, r, t) at (g .jointly .ensures) in
+    rw (c .succeed .ensures, r, success (a .s) (a .c) (a .v) (a .count) (a .t5) (sym e ∙ c .before .enum-told .given .1))
 
 refuse-requires : tie.Need-refuse-requires
 refuse-requires c κs = search needs
 
 returns-2 : tie.Need-returns-2
+unfolding soundStandIn standIn
 returns-2 c =
-    let f = c .before .before in
-    let o = f .before .before in
-    let a = o .before .before .before .args in
-    let r = o .before .before .row .ensures in
-    let m = rw (o .before .parameters .ensures, r) at (o .obey .ensures) in
-    let e = rw (r, m) at (f .fault-of .ensures) in
-    c .refuse .ensures ∙ rw e (sym (refusal (a .s) (a .c) (a .v) (a .count) (a .t5) (λ z. miss (1 ∷ 2 ∷ 3 ∷ 4 ∷ 5 ∷ []) 0 tt (rw (e ∙ z) at (c .before .match .keys2)))))
+    let g = c .before .before in
+    let f = g .before in
+    let i = f .before in
+    let p = i .before .before in
+    let a = p .before .before .args in
+    let r = p .before .row .ensures in
+    let n = rw (r, p .parameters .ensures) at (i .before .next-stand-in .ensures (a .c)) in
+    let t = rw n at (i .is-stand-in .ensures) in
+    let e = rw (f .fault-of .ensures, r, t) at (g .jointly .ensures) in
+    c .refuse .ensures ∙ sym (refusal (a .s) (a .c) (a .v) (a .count) (a .t5) (g .jointly .result) (sym e) (λ z. miss (1 ∷ 2 ∷ 3 ∷ 4 ∷ 5 ∷ []) 0 tt (rw z at (c .before .match .keys2))))
 
 pub run-spec : {M : Type 1} → statement M
 run-spec =
@@ -59,10 +75,12 @@ run-spec =
     array-read-id
     row-requires
     parameters-requires
-    obey-requires
+    next-stand-in-requires
+    is-stand-in-requires
     fault-of-requires
+    jointly-requires
     enum-told
-    read-out-requires
+    succeed-requires
     returns
     refuse-requires
     returns-2)

@@ -16,23 +16,17 @@ use Rattle.sender.proofs.runs.send.Statement.{statement}
 use Rattle.sender.proofs.runs.send.Tie as tie
 
 abbrev Inv-loop : tie.InvT-loop
-Inv-loop o until bytes out₀ table other sender₀ asks₀ taken₀ count₀ out sender asks taken count = Sending o sender₀ asks₀ until bytes out₀ sender asks taken out count
+Inv-loop o until bytes out₀ table sender₀ asks₀ taken₀ count₀ out sender asks taken count = Sending o sender₀ asks₀ until bytes out₀ sender asks taken out count
 
 abbrev μ-loop : tie.MeasureT-loop
-μ-loop o until bytes out₀ table other sender₀ asks₀ taken₀ count₀ out sender asks taken count = length bytes - taken
+μ-loop o until bytes out₀ table sender₀ asks₀ taken₀ count₀ out sender asks taken count = length bytes - taken
 
 table-requires : tie.Need-table-requires Inv-loop μ-loop
 table-requires c κs = search needs
 
-slice-aggregate-standing : tie.Need-slice-aggregate-standing Inv-loop μ-loop
-slice-aggregate-standing c = search needs
-
-standing-requires : tie.Need-standing-requires Inv-loop μ-loop
-standing-requires c κs = search needs
-
 loop-holds : tie.Need-loop-holds Inv-loop μ-loop
 loop-holds c =
-    let a = c .before .before .before .before .before .args in
+    let a = c .before .before .before .args in
     sending (a .o) (a .start) (a .first) (a .until) (now (a .bytes)) (now (a .out))
 
 shared-slice-read-b : tie.Need-shared-slice-read-b Inv-loop μ-loop
@@ -54,7 +48,7 @@ returns c =
     let t = h .before .before in
     let m = t .before in
     let l = m .loop in
-    let a = m .before .before .before .before .before .before .args in
+    let a = m .before .before .before .before .args in
     rw (c .sent .ensures)
     (at-stop (a .o) (a .start) (a .first) (a .until) (now (a .bytes)) (now (a .out)) (l .sender) (l .asks) (l .taken) (l .out) (l .count) (l .inv) (t .loop-test .taken) (rw (h .stops .ensures) at (g .if1 .taken)))
 
@@ -79,7 +73,7 @@ returns-2 c =
     let t = h .before .before in
     let m = t .before in
     let l = m .loop in
-    let a = m .before .before .before .before .before .before .args in
+    let a = m .before .before .before .before .args in
     rw (c .sent2 .ensures)
     (no-room (a .o) (a .start) (a .first) (a .until) (now (a .bytes)) (now (a .out)) (l .sender) (l .asks) (l .taken) (l .out) (l .count) (l .inv) (t .loop-test .taken) (rw (h .stops .ensures) at (g .if1 .left)) (rw (r .has-room .ensures .0) at (not-true (r .has-room .result) (f .if2 .taken))))
 
@@ -87,9 +81,7 @@ slice-aggregate-convert-as : tie.Need-slice-aggregate-convert-as Inv-loop μ-loo
 slice-aggregate-convert-as c = search needs
 
 convert-as-requires : tie.Need-convert-as-requires Inv-loop μ-loop
-convert-as-requires c κs =
-    let s = c .before .before .before .before .before .before .before .before in
-    (s .before .before .table .ensures, s .standing .ensures)
+convert-as-requires c κs = c .before .before .before .before .before .before .before .before .table .ensures
 
 sub-put-asked : tie.Need-sub-put-asked Inv-loop μ-loop
 sub-put-asked c = search needs
@@ -107,7 +99,7 @@ put-asked-requires c κs =
     let r = f .before in
     let m = r .before .before .before .before .before in
     let l = m .loop in
-    let a = m .before .before .before .before .before .before .args in
+    let a = m .before .before .before .before .args in
     let x = converted (a .o) (l .asks) (getD (now (a .bytes)) (l .taken) 0) in
     let room : most ≤ length (l .out) - l .count = leb-true _ _ (rw (r .has-room .ensures .0) at (not-false (r .has-room .result) (f .if2 .left))) in
     rw (free-length (l .out) (l .count), v .convert-as .ensures) (omega (arith, room, byte-most (a .o) (r .has-room .ensures .1) (l .sender) x))
@@ -120,12 +112,12 @@ add-count c =
     let p = c .before .before .before .before .before in
     let m = p .before .before .before .before .before .before .before .before .before .before in
     let l = m .loop in
-    omega (arith, p .put-asked .ensures .places .room, free-length (l .out) (l .count), l .inv .places .same-length, l .inv .places .room, m .before .before .before .before .before .before .good)
+    omega (arith, p .put-asked .ensures .places .room, free-length (l .out) (l .count), l .inv .places .same-length, l .inv .places .room, m .before .before .before .before .good)
 
 add-taken : tie.Need-add-taken Inv-loop μ-loop
 add-taken c =
     let t = c .before .before .before .before .before .before .before .before .before .before .before .before .before .before in
-    omega (arith, t .loop-test .taken, t .before .before .before .before .before .before .before .good)
+    omega (arith, t .loop-test .taken, t .before .before .before .before .before .good)
 
 loop-less : tie.Need-loop-less Inv-loop μ-loop
 loop-less c = omega (arith, c .before .before .before .before .before .before .before .before .before .before .before .before .before .before .loop-test .taken)
@@ -140,7 +132,7 @@ loop-again c =
     let t = h .before .before in
     let m = t .before in
     let l = m .loop in
-    let a = m .before .before .before .before .before .before .args in
+    let a = m .before .before .before .before .args in
     rw (c .before .before .next-asks .ensures)
     (sends-on (a .o) (a .start) (a .first) (a .until) (now (a .bytes)) (now (a .out)) (l .sender) (l .asks) (l .taken) (l .out) (l .count) (l .inv) (t .loop-test .taken) (rw (h .stops .ensures) at (g .if1 .left)) (rw (f .before .has-room .ensures .0) at (not-false (f .before .has-room .result) (f .if2 .left))) _ (p .put-asked .result) (rw (v .convert-as .ensures) at (p .put-asked .ensures)))
 
@@ -154,7 +146,7 @@ returns-3 : tie.Need-returns-3 Inv-loop μ-loop
 returns-3 c =
     let m = c .before .before in
     let l = m .loop in
-    let a = m .before .before .before .before .before .before .args in
+    let a = m .before .before .before .before .args in
     rw (c .sent3 .ensures) (all-sent (a .o) (a .start) (a .first) (a .until) (now (a .bytes)) (now (a .out)) (l .sender) (l .asks) (l .taken) (l .out) (l .count) (l .inv) (c .before .loop-test .left))
 
 pub send-spec : {M : Type 1} → statement M
@@ -164,8 +156,6 @@ send-spec =
     Inv-loop
     μ-loop
     table-requires
-    slice-aggregate-standing
-    standing-requires
     loop-holds
     shared-slice-read-b
     stops-requires

@@ -13,9 +13,6 @@ parameters-requires c κs = search needs
 in-range-requires : tie.Need-in-range-requires
 in-range-requires c κs = search needs
 
-stand-in-sound-requires : tie.Need-stand-in-sound-requires
-stand-in-sound-requires c κs = search needs
-
 enum-told-2 : tie.Need-enum-told-2
 enum-told-2 c = search needs
 
@@ -23,7 +20,7 @@ enum-told-3 : tie.Need-enum-told-3
 enum-told-3 c = search needs
 
 returns : tie.Need-returns
-returns c = simp (c .before .before .before .enum-told .given .1, c .before .in-range .ensures, c .before .before .parameters .ensures, c .stand-in-sound .ensures)
+returns c = simp (c .before .before .enum-told .given .1, c .in-range .ensures, c .before .parameters .ensures)
 
 returns-2 : tie.Need-returns-2
 returns-2 c = search needs
@@ -38,7 +35,6 @@ is-ranged-spec =
     enum-told
     parameters-requires
     in-range-requires
-    stand-in-sound-requires
     enum-told-2
     enum-told-3
     returns
