@@ -82,7 +82,7 @@ fn store(s: Settings, c: Connection, home: Home, n: u8, ps: [u8; 9]) -> Stored
     }
 }
 
-// What option 77 is once a write is stored: the first parameter where that is its place, 0 where all settings go to factory.
+// What option 77, whose place is 6, is once a write is stored: the first parameter where that is its place, 0 where all settings go to factory.
 fn stored_stand_in(s: Settings, home: Home, first: u8) -> u8
     ensures { λ r. ⌜ ((c : Names·Connection) (n : ℕ) (ps : List ℕ) → first ≡ getD ps 0 0 → r ≡ standIn (store s c home n ps .settings)) ⌝ }
 {

@@ -1,11 +1,12 @@
 -- `settings::run` meets its contract: where there is no fault and the stand-in is sound it succeeds as `succeeded` says, and any other is refused.
 -- Assumes nothing.
-use mathlib.Core.Path.{sym, _∙_}
+use mathlib.Core.Path.{_≡_, sym, _∙_}
 use mathlib.Core.List.{[], _∷_}
 use types.Run.{miss}
 use borrow.Author.Needs.{needs}
 use Rattle.settings.specs.Table.{soundStandIn}
 use Rattle.settings.specs.Options.{standIn}
+use Rattle.settings.specs.Command.{wrong}
 use Rattle.settings.proofs.Accept.{success, refusal}
 use Rattle.settings.proofs.run.Statement.{statement}
 use Rattle.settings.proofs.run.Tie as tie
@@ -37,36 +38,32 @@ enum-told c = search needs
 succeed-requires : tie.Need-succeed-requires
 succeed-requires c κs = search needs
 
-returns : tie.Need-returns
+-- the two tests find what is wrong
+found : (g : tie.After-jointly) → let a = g .before .before .before .before .before .before .args in g .jointly .result ≡ wrong (a .s) (a .c) (a .v) (a .count) (a .t5)
 unfolding soundStandIn standIn
-returns c =
-    let g = c .before .before .before in
+found g =
     let f = g .before in
     let i = f .before in
     let p = i .before .before in
-    let a = p .before .before .args in
     let r = p .before .row .ensures in
-    let n = rw (r, p .parameters .ensures) at (i .before .next-stand-in .ensures (a .c)) in
-    let t = rw n at (i .is-stand-in .ensures) in
-    let e = rw (f .fault-of .ensures, r, t) at (g .jointly .ensures) in
-    rw (c .succeed .ensures, r, success (a .s) (a .c) (a .v) (a .count) (a .t5) (sym e ∙ c .before .enum-told .given .1))
+    let n = rw (r, p .parameters .ensures) at (i .before .next-stand-in .ensures (p .before .before .args .c)) in
+    rw (f .fault-of .ensures, r, i .is-stand-in .ensures, n) at (g .jointly .ensures)
+
+returns : tie.Need-returns
+returns c =
+    let g = c .before .before .before in
+    let p = g .before .before .before .before in
+    let a = p .before .before .args in
+    rw (c .succeed .ensures, p .before .row .ensures, success (a .s) (a .c) (a .v) (a .count) (a .t5) (sym (found g) ∙ c .before .enum-told .given .1))
 
 refuse-requires : tie.Need-refuse-requires
 refuse-requires c κs = search needs
 
 returns-2 : tie.Need-returns-2
-unfolding soundStandIn standIn
 returns-2 c =
     let g = c .before .before in
-    let f = g .before in
-    let i = f .before in
-    let p = i .before .before in
-    let a = p .before .before .args in
-    let r = p .before .row .ensures in
-    let n = rw (r, p .parameters .ensures) at (i .before .next-stand-in .ensures (a .c)) in
-    let t = rw n at (i .is-stand-in .ensures) in
-    let e = rw (f .fault-of .ensures, r, t) at (g .jointly .ensures) in
-    c .refuse .ensures ∙ sym (refusal (a .s) (a .c) (a .v) (a .count) (a .t5) (g .jointly .result) (sym e) (λ z. miss (1 ∷ 2 ∷ 3 ∷ 4 ∷ 5 ∷ []) 0 tt (rw z at (c .before .match .keys2))))
+    let a = g .before .before .before .before .before .before .args in
+    c .refuse .ensures ∙ sym (refusal (a .s) (a .c) (a .v) (a .count) (a .t5) (g .jointly .result) (sym (found g)) (λ z. miss (1 ∷ 2 ∷ 3 ∷ 4 ∷ 5 ∷ []) 0 tt (rw z at (c .before .match .keys2))))
 
 pub run-spec : {M : Type 1} → statement M
 run-spec =
