@@ -5,7 +5,7 @@ use mathlib.Core.Path.{_≡_, refl, sym, ap, _∙_}
 use mathlib.Core.Bool.{Bool, true, false, _&&_, _||_, and-false, cond}
 use mathlib.Core.List.{List, [], _∷_, _++_, append-assoc, append-nil}
 use native.Mathlib.Omega.{arith}
-use borrow.Author.Tests.{ltb-true, ltb-false, lt-leb, ne-eqb}
+use borrow.Author.Tests.{ltb-true, ltb-false, lt-leb, eq-eqb, ne-eqb}
 use lib.Dec.{T, eqb, ltb}
 use Rattle.laws.specs.Same.{same}
 use Rattle.laws.proofs.Both.{both}
@@ -80,6 +80,14 @@ spoken-reads o b = go (conversion b) refl (eqb (standIn o) 0)
     go Nothing e false = byte-reads (standIn o)
     go (Free c) e z = own (Free c) e
     go (Cased case c) e z = own (Cased case c) e
+
+-- with 77 at 0 a byte asks for itself, or for nothing
+pub itself-alone : (o : Settings) (b : ℕ) → standIn o ≡ 0 → textByte o b ≡ itself b
+itself-alone o b e = rw (eq-eqb (standIn o) 0 e) (go (hasCode (conversion b)))
+  where
+    go : (x : Bool) → itself (cond (x || true) b (standIn o)) ≡ itself b
+    go true = refl
+    go false = refl
 
 reads-append : (xs ys : List Wanted) → reads (xs ++ ys) ≡ reads xs ++ reads ys
 reads-append [] ys = refl
