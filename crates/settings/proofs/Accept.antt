@@ -39,23 +39,23 @@ accepted Read r count fields e = accepted-in (takenBy Read r) Read r count field
 accepted Other r count fields e = absurd (omega (arith, ap numberOf e))
 
 -- nothing is wrong where there is no other error, and the values go together
-pub judged : (f : Fault) (together : Bool) → jointly f together ≡ fault.Nothing → (f ≡ fault.Nothing) × (together ≡ true)
+pub judged : (f : Fault) (ok : Bool) → jointly f ok ≡ fault.Nothing → (f ≡ fault.Nothing) × (ok ≡ true)
 judged fault.Nothing true e = (refl, refl)
 judged fault.Nothing false e = absurd (omega (arith, ap numberOf e))
-judged fault.Type together e = absurd (omega (arith, ap numberOf e))
-judged fault.Id together e = absurd (omega (arith, ap numberOf e))
-judged fault.Parameters together e = absurd (omega (arith, ap numberOf e))
-judged fault.Checksum together e = absurd (omega (arith, ap numberOf e))
-judged fault.Range together e = absurd (omega (arith, ap numberOf e))
+judged fault.Type ok e = absurd (omega (arith, ap numberOf e))
+judged fault.Id ok e = absurd (omega (arith, ap numberOf e))
+judged fault.Parameters ok e = absurd (omega (arith, ap numberOf e))
+judged fault.Checksum ok e = absurd (omega (arith, ap numberOf e))
+judged fault.Range ok e = absurd (omega (arith, ap numberOf e))
 
 -- any other error goes first
-pub unjudged : (f : Fault) (together : Bool) → (f ≡ fault.Nothing → ⊥) → jointly f together ≡ f
-unjudged fault.Nothing together h = absurd (h refl)
-unjudged fault.Type together h = refl
-unjudged fault.Id together h = refl
-unjudged fault.Parameters together h = refl
-unjudged fault.Checksum together h = refl
-unjudged fault.Range together h = refl
+pub unjudged : (f : Fault) (ok : Bool) → (f ≡ fault.Nothing → ⊥) → jointly f ok ≡ f
+unjudged fault.Nothing ok h = absurd (h refl)
+unjudged fault.Type ok h = refl
+unjudged fault.Id ok h = refl
+unjudged fault.Parameters ok h = refl
+unjudged fault.Checksum ok h = refl
+unjudged fault.Range ok h = refl
 
 module _ (s : Settings) (c : Connection) (v : Verb) (count : ℕ) (fields : List ℕ) where
   -- a command without error succeeds

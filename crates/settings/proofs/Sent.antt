@@ -15,8 +15,8 @@ use Rattle.message.proofs.Digits.{one-digit, digits-two}
 use Rattle.message.proofs.Sizes.{framed-length, framed-few}
 use Rattle.settings.specs.Names.{Outcome, Verb, Settings, Connection, Home, Version, Linked, Unlinked, Value, String, Factory, Nowhere, Row, Fault, Stored}
 use Rattle.settings.specs.Names.fault
-use Rattle.settings.specs.Table.{between, isSpeed, allCodes, early, padded, opens, soundString, soundStandIn, soundSettings, options, row, isConnection, soundLink, soundConnection}
-use Rattle.settings.specs.Command.{faultOf, numberOf, obey, numbersAt, answering, reading, kept, outcome, answered, wrong, commanded}
+use Rattle.settings.specs.Table.{between, isSpeed, allCodes, early, padded, opens, soundString, soundSettings, options, row, isConnection, soundLink, soundConnection}
+use Rattle.settings.specs.Command.{faultOf, together, numberOf, obey, numbersAt, answering, reading, kept, outcome, answered, wrong, commanded}
 use Rattle.settings.specs.Options.{endingCodes}
 use Rattle.settings.specs.Laws.{answerOf, Sound, Sendable, Short}
 use Rattle.settings.proofs.Accept.{accepted, judged}
@@ -148,7 +148,7 @@ module _ (s : Settings) (c : Connection) (h : Sound s c) (v : Verb) (count : ℕ
       go fault.Nothing e =
           let i = getD fields 0 0 in
           let t = obey s c v (row i) (drop 2 fields) in
-          let j = judged (faultOf v (row i) count fields) (soundStandIn (t .settings)) e in
+          let j = judged (faultOf v (row i) count fields) (together v (t .settings)) e in
           let a = accepted v (row i) count fields (j .0) in
           sends t (reading t (row i)) (read t i (obey-sound s c h v _ i fields l (defined v i (a .n) (a .takes)) a (j .1)))
       go fault.Type e = refuses fault.Type

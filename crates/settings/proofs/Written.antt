@@ -14,11 +14,11 @@ use Rattle.settings.specs.Names.{Verb, Write, Read, Other, Settings, Con
 use Rattle.settings.specs.Names.takes
 use Rattle.settings.specs.Names.fault
 use Rattle.settings.specs.Table.{between, inRange, options, row, isConnection, width, takesIf, takenBy, factory, soundString, soundStandIn, soundSettings, soundLink, soundConnection}
-use Rattle.settings.specs.Command.{faultOf, kept, withValue, withString, store, obey, valuesAt, numbersAt, reading, outcome, answered, wrong, commanded}
+use Rattle.settings.specs.Command.{faultOf, together, kept, withValue, withString, store, obey, valuesAt, numbersAt, reading, outcome, answered, wrong, commanded}
 use Rattle.settings.specs.Laws.{answerOf, readBy, Sound}
 use Rattle.settings.proofs.Accept.{Accepted, accepted, judged, success}
 use Rattle.settings.proofs.Rows.{lowAt, highAt, fitsHome, found, row-fits}
-use Rattle.settings.proofs.Held.{set-in, set-get, values-in, stand-in-sound, string-in}
+use Rattle.settings.proofs.Held.{set-in, set-get, values-in, string-in}
 
 -- the answer of an outcome is the list that it was made of
 pub answer-outcome : (t : Stored) (ns : List ℕ) → answerOf (outcome t ns) ≡ ns
@@ -99,7 +99,7 @@ module _ (s : Settings) (c : Connection) (count : ℕ) (fields : List ℕ) (elev
   written =
       let id = getD fields 0 0 in
       let r = row id in
-      let a = accepted Write r count fields (judged _ (soundStandIn (obey s c Write r (drop 2 fields) .settings)) ok .0) in
+      let a = accepted Write r count fields (judged _ (together Write (obey s c Write r (drop 2 fields) .settings)) ok .0) in
       let t = takes-can (r .written) (width (r .home)) (a .n) (a .takes) in
       let l : length (drop 2 fields) ≡ 9 = rw (length-drop, eleven) in
       let f = found id (defined Write id (a .n) (a .takes)) in
@@ -122,15 +122,14 @@ read-by t Factory r e g = rw (g, e, g)
 read-by t Nowhere r e g = rw (g, e, g)
 
 -- a read that follows a write answers the same numbers
-pub read-back : (s : Settings) (c : Connection) (count : ℕ) (fields : List ℕ) (count′ : ℕ) (fields′ : List ℕ) → wrong s c Write count fields ≡ fault.Nothing → wrong (commanded s c Write count fields .stored .settings) (commanded s c Write count fields .stored .connection) Read count′ fields′ ≡ fault.Nothing → getD fields′ 0 0 ≡ readBy (row (getD fields 0 0)) → answerOf (commanded (commanded s c Write count fields .stored .settings) (commanded s c Write count fields .stored .connection) Read count′ fields′) ≡ answerOf (commanded s c Write count fields)
+pub read-back : (s : Settings) (c : Connection) (count : ℕ) (fields : List ℕ) (count′ : ℕ) (fields′ : List ℕ) → wrong s c Write count fields ≡ fault.Nothing → wrong s c Read count′ fields′ ≡ fault.Nothing → getD fields′ 0 0 ≡ readBy (row (getD fields 0 0)) → answerOf (commanded (commanded s c Write count fields .stored .settings) (commanded s c Write count fields .stored .connection) Read count′ fields′) ≡ answerOf (commanded s c Write count fields)
 read-back s c count fields count′ fields′ ok ok′ e =
     let id = getD fields 0 0 in
     let r = row id in
-    let a = accepted Write r count fields (judged _ (soundStandIn (obey s c Write r (drop 2 fields) .settings)) ok .0) in
+    let a = accepted Write r count fields (judged _ (together Write (obey s c Write r (drop 2 fields) .settings)) ok .0) in
     let f = found id (defined Write id (a .n) (a .takes)) in
     let t = store s c (r .home) (r .number) (drop 2 fields) in
-    let passes : wrong (t .settings) (t .connection) Read count′ fields′ ≡ fault.Nothing = rw (success s c Write count fields ok) at ok′ in
-    rw (success s c Write count fields ok, success (t .settings) (t .connection) Read count′ fields′ passes, answer-outcome, answer-outcome, e, read-by t (r .home) r (ap row f) refl)
+    rw (success s c Write count fields ok, success (t .settings) (t .connection) Read count′ fields′ ok′, answer-outcome, answer-outcome, e, read-by t (r .home) r (ap row f) refl)
 
 -- and whatever can be written, 250 aside, can be read
 pub readable : (id : ℕ) → row id .written ≡ true → (row id .home ≡ Factory → ⊥) → row (readBy (row id)) .read ≡ true
@@ -152,8 +151,8 @@ readable id w h = go (row id .home) refl
     go Nowhere e = absurd (false≢true (fits Nowhere e))
 
 -- by its id and 0
-pub read-passes : (s : Settings) (c : Connection) (fields : List ℕ) → soundSettings s ≡ true → row (getD fields 0 0) .read ≡ true → getD fields 1 0 ≡ 0 → wrong s c Read 2 fields ≡ fault.Nothing
-read-passes s c fields h t n = rw (t, n, stand-in-sound s h)
+pub read-passes : (s : Settings) (c : Connection) (fields : List ℕ) → row (getD fields 0 0) .read ≡ true → getD fields 1 0 ≡ 0 → wrong s c Read 2 fields ≡ fault.Nothing
+read-passes s c fields t n = rw (t, n)
 
 -- 250 gives the factory settings and keeps the connection
 pub reset : (s : Settings) (c : Connection) (count : ℕ) (fields : List ℕ) → wrong s c Write count fields ≡ fault.Nothing → getD fields 0 0 ≡ 250 → commanded s c Write count fields .stored ≡ kept factory c
@@ -194,7 +193,7 @@ module _ (s : Settings) (c : Connection) (h : Sound s c) where
   store-sound r Nowhere ps e f t l i d = h
 
   -- what a command without error leaves
-  pub obey-sound : (v : Verb) (t : Takes) (id : ℕ) (fields : List ℕ) → length fields ≡ 11 → (row id .home ≡ Nowhere → ⊥) → Accepted t v (row id) fields → soundStandIn (obey s c v (row id) (drop 2 fields) .settings) ≡ true
+  pub obey-sound : (v : Verb) (t : Takes) (id : ℕ) (fields : List ℕ) → length fields ≡ 11 → (row id .home ≡ Nowhere → ⊥) → Accepted t v (row id) fields → together v (obey s c v (row id) (drop 2 fields) .settings) ≡ true
       → Sound (obey s c v (row id) (drop 2 fields) .settings) (obey s c v (row id) (drop 2 fields) .connection)
   obey-sound Write t id fields l d a i = store-sound (row id) (row id .home) (drop 2 fields) (ap row (found id d)) refl (row-fits id) (rw (length-drop, l)) (a .inside) i
   obey-sound Read t id fields l d a i = h
@@ -208,7 +207,7 @@ module _ (s : Settings) (c : Connection) (h : Sound s c) where
       go : (f : Fault) → wrong s c v count fields ≡ f → Sound (answered f s c v (row (getD fields 0 0)) fields .stored .settings) (answered f s c v (row (getD fields 0 0)) fields .stored .connection)
       go fault.Nothing e =
           let i = getD fields 0 0 in
-          let j = judged (faultOf v (row i) count fields) (soundStandIn (obey s c v (row i) (drop 2 fields) .settings)) e in
+          let j = judged (faultOf v (row i) count fields) (together v (obey s c v (row i) (drop 2 fields) .settings)) e in
           let a = accepted v (row i) count fields (j .0) in
           obey-sound v _ i fields l (defined v i (a .n) (a .takes)) a (j .1)
       go fault.Type e = h

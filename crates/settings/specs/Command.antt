@@ -45,14 +45,20 @@ faultOf Other r count fields = fault.Type
 faultOf Write r count fields = faultIn (takenBy Write r) Write r count fields
 faultOf Read r count fields = faultIn (takenBy Read r) Read r count fields
 
+-- the settings that a write would store have a sound stand-in; a read stores nothing
+abbrev pub together : Verb → Settings → Bool
+together Write next = soundStandIn next
+together Read next = true
+together Other next = true
+
 -- where nothing else is wrong, a value is out of range that does not go together with the settings
 abbrev pub jointly : Fault → Bool → Fault
-jointly fault.Nothing together = cond together fault.Nothing fault.Range
-jointly fault.Type together = fault.Type
-jointly fault.Id together = fault.Id
-jointly fault.Parameters together = fault.Parameters
-jointly fault.Checksum together = fault.Checksum
-jointly fault.Range together = fault.Range
+jointly fault.Nothing ok = cond ok fault.Nothing fault.Range
+jointly fault.Type ok = fault.Type
+jointly fault.Id ok = fault.Id
+jointly fault.Parameters ok = fault.Parameters
+jointly fault.Checksum ok = fault.Checksum
+jointly fault.Range ok = fault.Range
 
 -- the numbers of the errors
 abbrev pub numberOf : Fault → ℕ
@@ -148,9 +154,9 @@ answered fault.Parameters s c v r fields = refused s c (getD fields 0 0) fault.P
 answered fault.Checksum s c v r fields = refused s c (getD fields 0 0) fault.Checksum
 answered fault.Range s c v r fields = refused s c (getD fields 0 0) fault.Range
 
--- what is wrong with a command of `count` fields, of which the first is the id; the settings that it would store have a sound stand-in
+-- what is wrong with a command of `count` fields, of which the first is the id
 abbrev pub wrong : Settings → Connection → Verb → ℕ → List ℕ → Fault
-wrong s c v count fields = let r = row (getD fields 0 0) in jointly (faultOf v r count fields) (soundStandIn (obey s c v r (drop 2 fields) .settings))
+wrong s c v count fields = let r = row (getD fields 0 0) in jointly (faultOf v r count fields) (together v (obey s c v r (drop 2 fields) .settings))
 
 -- a finished command
 unfoldable pub commanded : Settings → Connection → Verb → ℕ → List ℕ → Outcome

@@ -2,10 +2,14 @@
 ghost use mathlib.Core.Path.{_≡_};
 ghost use Prim.Native.Nat.{_%_};
 ghost use lib.ListN.{getD, take, drop};
-ghost use Rattle.settings.specs.Command.{sum, checked, fitting, ranged, faultIn, faultOf, jointly, numberOf};
+ghost use Rattle.settings.specs.Command.{sum, checked, fitting, ranged, faultIn, faultOf, together, jointly, numberOf, obey};
+ghost use Rattle.settings.specs.Names.{Connection as Names·Connection};
 use crate::Fault;
 use crate::Row;
+use crate::Settings;
 use crate::Takes;
+use crate::sound::is_stand_in;
+use crate::store::stored_stand_in;
 use crate::table::in_range;
 use crate::table::taken_by;
 use command::Verb;
@@ -111,16 +115,24 @@ pub fn fault_of(v: Verb, r: Row, count: u8, fields: [u8; 11]) -> Fault
     fault_in(taken_by(v, r), v, r, count, fields)
 }
 
+// Whether what a command would store goes together.
+pub fn goes_together(s: Settings, v: Verb, r: Row, ps: [u8; 9]) -> bool
+    ensures { λ q. ⌜ ((c : Names·Connection) → q ≡ together v (obey s c v r ps .settings)) ⌝ }
+{
+    let home = r.home;
+    match v {
+        Verb::Write => is_stand_in(stored_stand_in(s, home, ps[0])),
+        Verb::Read => true,
+        Verb::Other => true,
+    }
+}
+
 // What is wrong, where a value also has to go together with the settings.
-pub fn jointly(f: Fault, together: bool) -> Fault
-    ensures { λ r. ⌜ r ≡ jointly f together ⌝ }
+pub fn jointly(f: Fault, ok: bool) -> Fault
+    ensures { λ r. ⌜ r ≡ jointly f ok ⌝ }
 {
     if let Fault::Nothing = f {
-        return if together {
-            Fault::Nothing
-        } else {
-            Fault::Range
-        };
+        return if ok { Fault::Nothing } else { Fault::Range };
     }
     f
 }

@@ -7,14 +7,13 @@ use answer::read_out;
 use answer::two;
 use command::Verb;
 use faults::fault_of;
+use faults::goes_together;
 use faults::jointly;
 use faults::number_of;
 use faults::parameters;
 use sound::connection_sound;
-use sound::is_stand_in;
 use sound::settings_sound;
 use store::keep;
-use store::next_stand_in;
 use store::obey;
 use table::row;
 
@@ -126,8 +125,8 @@ pub fn run(s: Settings, c: Connection, v: Verb, count: u8, fields: [u8; 11]) -> 
 {
     let id = fields[0];
     let r = row(id);
-    let together = is_stand_in(next_stand_in(s, v, r, parameters(fields)));
-    let f = jointly(fault_of(v, r, count, fields), together);
+    let ok = goes_together(s, v, r, parameters(fields));
+    let f = jointly(fault_of(v, r, count, fields), ok);
     if let Fault::Nothing = f {
         return succeed(s, c, v, r, fields);
     }

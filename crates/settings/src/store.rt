@@ -83,7 +83,7 @@ fn store(s: Settings, c: Connection, home: Home, n: u8, ps: [u8; 9]) -> Stored
 }
 
 // What option 77, whose place is 6, is once a write is stored: the first parameter where that is its place, 0 where all settings go to factory.
-fn stored_stand_in(s: Settings, home: Home, first: u8) -> u8
+pub fn stored_stand_in(s: Settings, home: Home, first: u8) -> u8
     ensures { λ r. ⌜ ((c : Names·Connection) (n : ℕ) (ps : List ℕ) → first ≡ getD ps 0 0 → r ≡ standIn (store s c home n ps .settings)) ⌝ }
 {
     let now = s.stand_in();
@@ -95,19 +95,6 @@ fn stored_stand_in(s: Settings, home: Home, first: u8) -> u8
         Home::String => now,
         Home::Factory => 0,
         Home::Nowhere => now,
-    }
-}
-
-// What option 77 is once a command is stored.
-pub fn next_stand_in(s: Settings, v: Verb, r: Row, ps: [u8; 9]) -> u8
-    ensures { λ q. ⌜ ((c : Names·Connection) → q ≡ standIn (obey s c v r ps .settings)) ⌝ }
-{
-    let home = r.home;
-    let now = s.stand_in();
-    match v {
-        Verb::Write => stored_stand_in(s, home, ps[0]),
-        Verb::Read => now,
-        Verb::Other => now,
     }
 }
 

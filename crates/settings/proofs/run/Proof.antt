@@ -4,8 +4,6 @@ use mathlib.Core.Path.{_≡_, sym, _∙_}
 use mathlib.Core.List.{[], _∷_}
 use types.Run.{miss}
 use borrow.Author.Needs.{needs}
-use Rattle.settings.specs.Table.{soundStandIn}
-use Rattle.settings.specs.Options.{standIn}
 use Rattle.settings.specs.Command.{wrong}
 use Rattle.settings.proofs.Accept.{success, refusal}
 use Rattle.settings.proofs.run.Statement.{statement}
@@ -20,11 +18,8 @@ row-requires c κs = search needs
 parameters-requires : tie.Need-parameters-requires
 parameters-requires c κs = search needs
 
-next-stand-in-requires : tie.Need-next-stand-in-requires
-next-stand-in-requires c κs = search needs
-
-is-stand-in-requires : tie.Need-is-stand-in-requires
-is-stand-in-requires c κs = search needs
+goes-together-requires : tie.Need-goes-together-requires
+goes-together-requires c κs = search needs
 
 fault-of-requires : tie.Need-fault-of-requires
 fault-of-requires c κs = search needs
@@ -39,20 +34,18 @@ succeed-requires : tie.Need-succeed-requires
 succeed-requires c κs = search needs
 
 -- the two tests find what is wrong
-found : (g : tie.After-jointly) → let a = g .before .before .before .before .before .before .args in g .jointly .result ≡ wrong (a .s) (a .c) (a .v) (a .count) (a .t5)
-unfolding soundStandIn standIn
+found : (g : tie.After-jointly) → let a = g .before .before .before .before .before .args in g .jointly .result ≡ wrong (a .s) (a .c) (a .v) (a .count) (a .t5)
 found g =
     let f = g .before in
-    let i = f .before in
-    let p = i .before .before in
+    let t = f .before in
+    let p = t .before in
     let r = p .before .row .ensures in
-    let n = rw (r, p .parameters .ensures) at (i .before .next-stand-in .ensures (p .before .before .args .c)) in
-    rw (f .fault-of .ensures, r, i .is-stand-in .ensures, n) at (g .jointly .ensures)
+    rw (f .fault-of .ensures, t .goes-together .ensures (p .before .before .args .c), p .parameters .ensures, r) at (g .jointly .ensures)
 
 returns : tie.Need-returns
 returns c =
     let g = c .before .before .before in
-    let p = g .before .before .before .before in
+    let p = g .before .before .before in
     let a = p .before .before .args in
     rw (c .succeed .ensures, p .before .row .ensures, success (a .s) (a .c) (a .v) (a .count) (a .t5) (sym (found g) ∙ c .before .enum-told .given .1))
 
@@ -62,7 +55,7 @@ refuse-requires c κs = search needs
 returns-2 : tie.Need-returns-2
 returns-2 c =
     let g = c .before .before in
-    let a = g .before .before .before .before .before .before .args in
+    let a = g .before .before .before .before .before .args in
     c .refuse .ensures ∙ sym (refusal (a .s) (a .c) (a .v) (a .count) (a .t5) (g .jointly .result) (sym (found g)) (λ z. miss (1 ∷ 2 ∷ 3 ∷ 4 ∷ 5 ∷ []) 0 tt (rw z at (c .before .match .keys2))))
 
 pub run-spec : {M : Type 1} → statement M
@@ -72,8 +65,7 @@ run-spec =
     array-read-id
     row-requires
     parameters-requires
-    next-stand-in-requires
-    is-stand-in-requires
+    goes-together-requires
     fault-of-requires
     jointly-requires
     enum-told

@@ -20,7 +20,7 @@ returns-2 c = search needs
 returns-3 : tie.Need-returns-3
 returns-3 c =
     let a = c .before .args in
-    sym (unjudged (a .f) (a .together) (λ z. miss (1 ∷ 2 ∷ 3 ∷ 4 ∷ 5 ∷ []) 0 tt (rw z at (c .match .keys2))))
+    sym (unjudged (a .f) (a .ok) (λ z. miss (1 ∷ 2 ∷ 3 ∷ 4 ∷ 5 ∷ []) 0 tt (rw z at (c .match .keys2))))
 
 pub jointly-spec : {M : Type 1} → statement M
 jointly-spec = tie.close (tie.spec enum-told returns returns-2 returns-3)
