@@ -2,7 +2,8 @@
 // make.
 ghost use mathlib.Core.Path.{_≡_};
 ghost use Prim.Native.Nat.{_<_};
-ghost use Rattle.code.specs.Rows.{placeOf, rowAt};
+ghost use mathlib.Core.List.{_++_};
+ghost use Rattle.code.specs.Rows.{letters, figures, placeOf, rowAt};
 ghost use Rattle.code.specs.Kinds.{kindOf, shift, strikes, moves};
 
 // The case that a printer is in.
@@ -120,6 +121,19 @@ pub fn row_at(case: Case, c: u8) -> u8
     } else {
         0
     }
+}
+
+// The two rows one after the other, letters first, for a caller that lends them.
+pub fn rows() -> [u8; 64]
+    ensures { λ r. ⌜ r ≡ letters ++ figures ⌝ }
+{
+    let mut flat = [0; 64];
+    let mut i = 0;
+    while i < 64 {
+        flat[i] = ROWS[i / 32][i % 32];
+        i += 1;
+    }
+    flat
 }
 
 // The kind of a code; over 31 it is as BLANK. 4 is space, 8 is CR, 27 is FIGS, 31 is LTRS, 0 is BLANK and 2 is LF; 5 is S and
