@@ -47,28 +47,6 @@ struct code {
   uint8_t code, kind;
 };
 
-/* Host text to codes: the firmware paper's table "ASCII-67 to Baudot-USTTY". Entries not named are without a code. */
-#define L(upper, code) [upper] = {code, LETTER}, [upper + 32] = {code, LETTER}
-#define F(byte, code) [byte] = {code, FIGURE}
-#define NONE(byte) [byte] = {0, NO_CODE}
-#define NONE_8(byte)                                                                                                   \
-  NONE(byte), NONE(byte + 1), NONE(byte + 2), NONE(byte + 3), NONE(byte + 4), NONE(byte + 5), NONE(byte + 6),          \
-      NONE(byte + 7)
-#define NONE_32(byte) NONE_8(byte), NONE_8(byte + 8), NONE_8(byte + 16), NONE_8(byte + 24)
-static const struct code of_byte[256] = {
-    [0] = {0, PLAIN}, NONE(1), NONE(2), NONE(3), NONE(4), NONE(5), NONE(6), [7] = {5, BELL},
-    NONE(8), NONE(9), [10] = {2, PLAIN}, NONE(11), NONE(12), [13] = {8, RETURN}, [14] = {FIGS, SHIFT},
-    [15] = {LTRS, SHIFT}, NONE_8(16), NONE_8(24),
-    [' '] = {4, SPACE}, F('!', 13), F('"', 17), F('#', 20), F('$', 9), NONE('%'), F('&', 26), F('\'', 11),
-    F('(', 15), F(')', 18), NONE('*'), NONE('+'), F(',', 12), F('-', 3), F('.', 28), F('/', 29),
-    F('0', 22), F('1', 23), F('2', 19), F('3', 1), F('4', 10), F('5', 16), F('6', 21), F('7', 7), F('8', 6), F('9', 24),
-    F(':', 14), F(';', 30), NONE('<'), NONE('='), NONE('>'), F('?', 25),
-    NONE('@'), L('A', 3), L('B', 25), L('C', 14), L('D', 9), L('E', 1), L('F', 13), L('G', 26), L('H', 20), L('I', 6),
-    L('J', 11), L('K', 15), L('L', 18), L('M', 28), L('N', 12), L('O', 24), L('P', 22), L('Q', 23), L('R', 10),
-    L('S', 5), L('T', 16), L('U', 7), L('V', 30), L('W', 19), L('X', 29), L('Y', 21), L('Z', 17),
-    NONE('['), NONE('\\'), NONE(']'), NONE('^'), NONE('_'), NONE('`'), NONE('{'), NONE('|'), NONE('}'), NONE('~'),
-    NONE(127), NONE_32(128), NONE_32(160), NONE_32(192), NONE_32(224)};
-
 /* Codes to host bytes, by case: the paper's table "Baudot-USTTY to ASCII-67". */
 static const uint8_t to_byte[3][32] = {
     [LETTERS] = {0,   'E', 10,  'A', ' ', 'S', 'I', 'U', 13,  'D', 'R', 'J', 'N', 'F', 'C', 'K',
@@ -82,6 +60,16 @@ static const uint8_t to_byte[3][32] = {
    of_case, of_case, of_case, of_case, of_case, of_case, of_case, of_case, of_case, of_case, of_case,                  \
    of_case, of_case, of_case, of_case, of_case, SHIFT,   of_case, of_case, of_case, SHIFT}
 static const uint8_t kind_of[3][32] = {[LETTERS] = KINDS(LETTER, LETTER), [FIGURES] = KINDS(FIGURE, BELL)};
+
+/* Host text to codes: the paper's table "ASCII-67 to Baudot-USTTY", found by looking through the letters and then the figures, as
+   one would for a board without room for a table of 128 entries. A small letter is sent as its capital. */
+static inline struct code of_byte(uint8_t byte) {
+  if (byte >= 'a' && byte <= 'z') byte -= 32;
+  for (int of_case = LETTERS; of_case <= FIGURES; of_case++)
+    for (uint8_t code = 0; code < 32; code++)
+      if (to_byte[of_case][code] == byte) return (struct code){code, kind_of[of_case][code]};
+  return (struct code){0, NO_CODE};
+}
 
 /* ---- Sending to the line: each function puts codes at `out` and hands back the place after them ---- */
 
@@ -165,7 +153,7 @@ static inline uint8_t *item(struct box *box, uint8_t *out, uint8_t code, uint8_t
 }
 
 static inline uint8_t *text(struct box *box, uint8_t *out, uint8_t byte) {
-  struct code c = of_byte[byte];
+  struct code c = of_byte(byte);
   if (box->mode != 1) {
     SEEN(NOT_CARRIED);
     return out;
@@ -176,7 +164,7 @@ static inline uint8_t *text(struct box *box, uint8_t *out, uint8_t byte) {
       return out;
     }
     SEEN(REPLACED);
-    c = of_byte[box->stand_in];
+    c = of_byte(box->stand_in);
   }
   return item(box, out, c.code, c.kind);
 }
@@ -214,7 +202,7 @@ static int is_string(const uint8_t s[8]) {
 }
 
 /* Setting 77: 0, or an ASCII value from 33 to 126 that has a code. */
-static int is_stand_in(uint8_t n) { return n == 0 || (n >= 33 && n <= 126 && of_byte[n].kind != NO_CODE); }
+static int is_stand_in(uint8_t n) { return n == 0 || (n >= 33 && n <= 126 && of_byte(n).kind != NO_CODE); }
 
 /* Where a setting of one value is kept, or none. */
 static uint8_t *setting(struct box *box, uint8_t id) {

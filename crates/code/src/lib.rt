@@ -127,11 +127,13 @@ pub fn row_at(case: Case, c: u8) -> u8
 pub fn rows() -> [u8; 64]
     ensures { λ r. ⌜ r ≡ letters ++ figures ⌝ }
 {
+    let rows = ROWS;
     let mut flat = [0; 64];
-    let mut i = 0;
-    while i < 64 {
-        flat[i] = ROWS[i / 32][i % 32];
-        i += 1;
+    let mut c = 0;
+    while c < 32 {
+        flat[c] = rows[0][c];
+        flat[32 + c] = rows[1][c];
+        c += 1;
     }
     flat
 }

@@ -1,178 +1,77 @@
-// Host text to line codes, by one table of 128 entries.
+// Host text to line codes, by a search through the two rows.
 ghost use mathlib.Core.Path.{_≡_};
-ghost use Rattle.code.specs.Convert.{conversion};
-ghost use Rattle.convert.specs.Entry.{Converts, Tabled, unpacked};
+ghost use Rattle.code.specs.Kinds.{dependent};
+ghost use Rattle.code.specs.Convert.{capital, placeIn, found, conversion};
+ghost use Rattle.convert.specs.Entry.{Converts, Tabled};
 use code::Case;
 use code::Conversion;
+use code::Kind;
 
-// An entry is a code and the case that it wants: 0 where there is no code, and else the code added to 32 where it does not
-// depend on case, to 64 where it wants letters, to 96 where it wants figures.
-const TABLE: [u8; 128] = [
-    32,
-    0,
-    0,
-    0,
-    0,
-    0,
-    0,
-    101,
-    0,
-    0,
-    34,
-    0,
-    0,
-    40,
-    59,
-    63,
-    0,
-    0,
-    0,
-    0,
-    0,
-    0,
-    0,
-    0,
-    0,
-    0,
-    0,
-    0,
-    0,
-    0,
-    0,
-    0,
-    36,
-    109,
-    113,
-    116,
-    105,
-    0,
-    122,
-    107,
-    111,
-    114,
-    0,
-    0,
-    108,
-    99,
-    124,
-    125,
-    118,
-    119,
-    115,
-    97,
-    106,
-    112,
-    117,
-    103,
-    102,
-    120,
-    110,
-    126,
-    0,
-    0,
-    0,
-    121,
-    0,
-    67,
-    89,
-    78,
-    73,
-    65,
-    77,
-    90,
-    84,
-    70,
-    75,
-    79,
-    82,
-    92,
-    76,
-    88,
-    86,
-    87,
-    74,
-    69,
-    80,
-    71,
-    94,
-    83,
-    93,
-    85,
-    81,
-    0,
-    0,
-    0,
-    0,
-    0,
-    0,
-    67,
-    89,
-    78,
-    73,
-    65,
-    77,
-    90,
-    84,
-    70,
-    75,
-    79,
-    82,
-    92,
-    76,
-    88,
-    86,
-    87,
-    74,
-    69,
-    80,
-    71,
-    94,
-    83,
-    93,
-    85,
-    81,
-    0,
-    0,
-    0,
-    0,
-    0,
-];
-
-// What an entry of the table stands for.
-fn unpack(e: u8) -> Conversion
-    ensures { λ r. ⌜ r ≡ unpacked e ⌝ }
+// A small letter as its capital, any other byte as it is.
+fn capital(b: u8) -> u8
+    ensures { λ r. ⌜ r ≡ capital b ⌝ }
 {
-    let c = e % 32;
-    if e < 32 {
-        return Conversion::Nothing;
-    }
-    if e < 64 {
-        return Conversion::Free(c);
-    }
-    if e < 96 {
-        return Conversion::Cased(Case::Letters, c);
-    }
-    Conversion::Cased(Case::Figures, c)
+    if b'a' <= b && b <= b'z' { b - 32 } else { b }
 }
 
-// The table, for a caller that lends it to many look-ups.
-pub fn table() -> [u8; 128]
+// Where a byte first stands among others, or their number.
+fn place_in(bytes: &[u8], b: u8) -> usize
+    ensures { λ r. ⌜ r ≡ placeIn (now (bytes .entry)) b ⌝ }
+{
+    let mut i = 0;
+    while i < bytes.len() {
+        if bytes[i] == b {
+            return i;
+        }
+        i += 1;
+    }
+    i
+}
+
+// Whether a code of this kind depends on case.
+fn depends(k: Kind) -> bool
+    ensures { λ r. ⌜ r ≡ dependent k ⌝ }
+{
+    match k {
+        Kind::Still => false,
+        Kind::Space => false,
+        Kind::Return => false,
+        Kind::Shift(_) => false,
+        Kind::Char(_) => true,
+    }
+}
+
+// A code found in the row of a case.
+fn found(case: Case, c: u8) -> Conversion
+    ensures { λ r. ⌜ r ≡ found case c ⌝ }
+{
+    if depends(code::kind_of(c)) {
+        Conversion::Cased(case, c)
+    } else {
+        Conversion::Free(c)
+    }
+}
+
+// The rows, letters and then figures, for a caller that lends them to many look-ups.
+pub fn table() -> [u8; 64]
     ensures { λ r. ⌜ Tabled r ⌝ }
 {
-    TABLE
+    code::rows()
 }
 
-// What a host byte is on the line, by the table lent.
+// What a host byte is on the line: the place of its capital in the rows lent tells its case and its code.
 pub fn look_up(table: &[u8], b: u8) -> Conversion
     requires { ⌜ Tabled (now table) ⌝ }
     ensures { λ r. ⌜ r ≡ conversion b ⌝ }
 {
-    let i = b as usize;
-    if i < table.len() {
-        unpack(table[i])
-    } else {
-        Conversion::Nothing
+    let place = place_in(table, capital(b));
+    if place < 32 {
+        return found(Case::Letters, place as u8);
     }
+    if place < 64 {
+        return found(Case::Figures, (place - 32) as u8);
+    }
+    Conversion::Nothing
 }
 
 // What a host byte is on the line.

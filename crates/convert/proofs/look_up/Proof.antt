@@ -1,29 +1,62 @@
--- `convert::look_up` meets its contract: each entry of the table stands for its byte's conversion, and past the table `getD` gives 0,
--- which stands for nothing.
+-- `convert::look_up` meets its contract: what is lent is the letters and then the figures, so the place of the capital is what the
+-- search finds.
 -- Assumes nothing.
-use mathlib.Core.Path.{sym, ap, _∙_}
-use lib.ListN.{List·getD-eq-default}
+use Prim.Native.Nat.{ℕ}
+use mathlib.Core.Path.{_≡_, _∙_}
+use mathlib.Core.List.{List, _++_}
 use denote.Ref.{now}
 use borrow.Author.Needs.{needs}
-use Rattle.convert.specs.Entry.{unpacked}
+use Rattle.code.specs.Rows.{letters, figures}
+use Rattle.code.specs.Convert.{capital, placeIn}
+use Rattle.convert.proofs.Search.{in-letters, in-figures, in-neither}
 use Rattle.convert.proofs.look_up.Statement.{statement}
 use Rattle.convert.proofs.look_up.Tie as tie
 
-shared-slice-read-unpack : tie.Need-shared-slice-read-unpack
-shared-slice-read-unpack c = search needs
+placed : (rows : List ℕ) (b x p : ℕ) → rows ≡ letters ++ figures → x ≡ capital b → p ≡ placeIn rows x → p ≡ placeIn (letters ++ figures) (capital b)
+placed rows b x p e f g = rw (e, f) at g
 
-unpack-requires : tie.Need-unpack-requires
-unpack-requires c κs = search needs
+place : (c : tie.After-place-in) → c .place-in .result ≡ placeIn (letters ++ figures) (capital (c .before .before .before .args .b))
+place c =
+    let s = c .before .before .before in
+    placed (now (s .args .table)) (s .args .b) _ _ (s .pre .lent) (c .before .capital .ensures) (c .place-in .ensures)
+
+capital-requires : tie.Need-capital-requires
+capital-requires c κs = search needs
+
+place-in-requires : tie.Need-place-in-requires
+place-in-requires c κs = search needs
+
+cast-found : tie.Need-cast-found
+cast-found c = search needs
+
+found-requires : tie.Need-found-requires
+found-requires c κs = search needs
 
 returns : tie.Need-returns
-returns c =
-    let b = c .before .before .before .before in
-    c .unpack .ensures ∙ b .pre .entry (b .args .b) (search needs)
+returns c = c .found .ensures ∙ in-letters _ _ (place (c .before .before)) (search needs)
+
+cast-found-2 : tie.Need-cast-found-2
+cast-found-2 c = search needs
+
+found-requires-2 : tie.Need-found-requires-2
+found-requires-2 c κs = search needs
 
 returns-2 : tie.Need-returns-2
-returns-2 c =
-    let b = c .before .before in
-    sym (ap unpacked (List·getD-eq-default (now (b .args .table)) 0 {n = b .args .b} (c .if1 .left))) ∙ b .pre .entry (b .args .b) (search needs)
+returns-2 c = c .found2 .ensures ∙ in-figures _ _ (place (c .before .before .before)) (search needs) (search needs)
+
+returns-3 : tie.Need-returns-3
+returns-3 c = in-neither _ _ (place (c .before .before)) (search needs)
 
 pub look-up-spec : {M : Type 1} → statement M
-look-up-spec = tie.close (tie.spec shared-slice-read-unpack unpack-requires returns returns-2)
+look-up-spec =
+    tie.close
+    (tie.spec
+    capital-requires
+    place-in-requires
+    cast-found
+    found-requires
+    returns
+    cast-found-2
+    found-requires-2
+    returns-2
+    returns-3)
