@@ -129,10 +129,11 @@ pub fn rows() -> [u8; 64]
 {
     let rows = ROWS;
     let mut flat = [0; 64];
-    let mut c = 0;
+    let mut c: u8 = 0;
     while c < 32 {
-        flat[c] = rows[0][c];
-        flat[32 + c] = rows[1][c];
+        let i = c as usize;
+        flat[i] = rows[0][i];
+        flat[32 + i] = rows[1][i];
         c += 1;
     }
     flat

@@ -1,5 +1,7 @@
 // Host text to line codes, by a search through the two rows.
+ghost use Prim.Native.Nat.{_<_};
 ghost use mathlib.Core.Path.{_≡_};
+ghost use lib.ListN.{length};
 ghost use Rattle.code.specs.Kinds.{dependent};
 ghost use Rattle.code.specs.Convert.{capital, placeIn, found, conversion};
 ghost use Rattle.convert.specs.Entry.{Converts, Tabled};
@@ -15,12 +17,14 @@ fn capital(b: u8) -> u8
 }
 
 // Where a byte first stands among others, or their number.
-fn place_in(bytes: &[u8], b: u8) -> usize
+fn place_in(bytes: &[u8], b: u8) -> u8
+    requires { ⌜ length (now bytes) < 256 ⌝ }
     ensures { λ r. ⌜ r ≡ placeIn (now (bytes .entry)) b ⌝ }
 {
-    let mut i = 0;
-    while i < bytes.len() {
-        if bytes[i] == b {
+    let n = bytes.len() as u8;
+    let mut i: u8 = 0;
+    while i < n {
+        if bytes[i as usize] == b {
             return i;
         }
         i += 1;
@@ -66,10 +70,10 @@ pub fn look_up(table: &[u8], b: u8) -> Conversion
 {
     let place = place_in(table, capital(b));
     if place < 32 {
-        return found(Case::Letters, place as u8);
+        return found(Case::Letters, place);
     }
     if place < 64 {
-        return found(Case::Figures, (place - 32) as u8);
+        return found(Case::Figures, place - 32);
     }
     Conversion::Nothing
 }

@@ -35,6 +35,9 @@ abbrev μ-loop : tie.MeasureT-loop
 loop-holds : tie.Need-loop-holds Inv-loop μ-loop
 loop-holds c = (search needs, length-replicate {A = ℕ} 64 0, refl, refl)
 
+cast-i : tie.Need-cast-i Inv-loop μ-loop
+cast-i c = search needs
+
 index-1-flat : tie.Need-index-1-flat Inv-loop μ-loop
 index-1-flat c = search needs
 
@@ -82,6 +85,7 @@ rows-spec =
     Inv-loop
     μ-loop
     loop-holds
+    cast-i
     index-1-flat
     index-2-flat
     array-write-flat

@@ -4,6 +4,8 @@
 use Prim.Native.Nat.{ℕ}
 use mathlib.Core.Path.{_≡_, _∙_}
 use mathlib.Core.List.{List, _++_}
+use native.Mathlib.Omega.{arith}
+use lib.ListN.{length}
 use denote.Ref.{now}
 use borrow.Author.Needs.{needs}
 use Rattle.code.specs.Rows.{letters, figures}
@@ -11,6 +13,9 @@ use Rattle.code.specs.Convert.{capital, placeIn}
 use Rattle.convert.proofs.Search.{in-letters, in-figures, in-neither}
 use Rattle.convert.proofs.look_up.Statement.{statement}
 use Rattle.convert.proofs.look_up.Tie as tie
+
+size : (rows : List ℕ) → rows ≡ letters ++ figures → length rows ≡ 64
+size rows e = rw e
 
 placed : (rows : List ℕ) (b x p : ℕ) → rows ≡ letters ++ figures → x ≡ capital b → p ≡ placeIn rows x → p ≡ placeIn (letters ++ figures) (capital b)
 placed rows b x p e f g = rw (e, f) at g
@@ -24,19 +29,16 @@ capital-requires : tie.Need-capital-requires
 capital-requires c κs = search needs
 
 place-in-requires : tie.Need-place-in-requires
-place-in-requires c κs = search needs
-
-cast-found : tie.Need-cast-found
-cast-found c = search needs
+place-in-requires c κs =
+    let s = c .before .before in
+    let n = size (now (s .args .table)) (s .pre .lent) in
+    omega (arith, n)
 
 found-requires : tie.Need-found-requires
 found-requires c κs = search needs
 
 returns : tie.Need-returns
 returns c = c .found .ensures ∙ in-letters _ _ (place (c .before .before)) (search needs)
-
-cast-found-2 : tie.Need-cast-found-2
-cast-found-2 c = search needs
 
 found-requires-2 : tie.Need-found-requires-2
 found-requires-2 c κs = search needs
@@ -53,10 +55,8 @@ look-up-spec =
     (tie.spec
     capital-requires
     place-in-requires
-    cast-found
     found-requires
     returns
-    cast-found-2
     found-requires-2
     returns-2
     returns-3)

@@ -1,11 +1,11 @@
 -- `convert::place_in` meets its contract. The invariant: the byte's place is as far on as its place in what remains.
 -- Assumes nothing.
 use Prim.Native.Nat.{ℕ, suc, _≤_, _<_, _+_, _-_}
-use mathlib.Core.Path.{_≡_, refl, sym, _∙_}
+use mathlib.Core.Path.{_≡_}
 use mathlib.Core.List.{List}
 use native.Mathlib.Omega.{arith}
 use native.Mathlib.Numerals.{add-one}
-use native.Mathlib.Nat.{zero-add, add-zero, add-suc}
+use native.Mathlib.Nat.{zero-add}
 use lib.ListN.{length, getD, drop, drop-of-length-le}
 use lib.Seq.{drop-cons}
 use denote.Ref.{now}
@@ -25,13 +25,19 @@ all : (b : ℕ) (s : List ℕ) (i : ℕ) → length s ≤ i → placeIn (drop i 
 all b s i h = rw (drop-of-length-le s h)
 
 abbrev Inv-loop : tie.InvT-loop
-Inv-loop bytes b i₀ i = (i ≤ length bytes) × (placeIn bytes b ≡ i + placeIn (drop i bytes) b)
+Inv-loop bytes b n i₀ i = (i ≤ n) × (placeIn bytes b ≡ i + placeIn (drop i bytes) b)
 
 abbrev μ-loop : tie.MeasureT-loop
-μ-loop bytes b i₀ i = length bytes - i
+μ-loop bytes b n i₀ i = n - i
+
+cast-n : tie.Need-cast-n Inv-loop μ-loop
+cast-n c = search needs
 
 loop-holds : tie.Need-loop-holds Inv-loop μ-loop
 loop-holds c = (search needs, rw zero-add)
+
+cast-if1 : tie.Need-cast-if1 Inv-loop μ-loop
+cast-if1 c = search needs
 
 shared-slice-read-if1 : tie.Need-shared-slice-read-if1 Inv-loop μ-loop
 shared-slice-read-if1 c = search needs
@@ -66,7 +72,9 @@ place-in-spec =
     (tie.spec
     Inv-loop
     μ-loop
+    cast-n
     loop-holds
+    cast-if1
     shared-slice-read-if1
     returns
     add-i
