@@ -31,7 +31,7 @@
  *   needed on every target:              memcpy memmove memset
  *   needed on armv7 and thumbv6m, SIZE:  __aeabi_uidiv __aeabi_uidivmod
  *
- * On Thumb (v7-M) the archive takes 10.6 kB of program memory if made for SIZE, and 13.7 kB for SPEED, and a call takes at most 1,700 bytes of
+ * On Thumb (v7-M) the archive takes 10.4 kB of program memory if made for SIZE, and 14.0 kB for SPEED, and a call takes at most 1,700 bytes of
  * stack beside those of the functions above (SPEED: 1,100). `benchmark/size` measures both.
  *
  * After a power cut, the board writes the connection again before any text: the printer may have moved, and only writing a connection
