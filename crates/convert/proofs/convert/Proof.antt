@@ -1,5 +1,4 @@
--- `convert::convert` meets its contract: the entry that it looks up is the table's, and what that stands for has the paper's mark and
--- code.
+-- `convert::convert` meets its contract: what it looks up is the conversion, which has the paper's mark and code.
 -- Assumes nothing.
 use Prim.Native.Nat.{ℕ, _<_}
 use mathlib.Core.Path.{_≡_}
