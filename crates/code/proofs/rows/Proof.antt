@@ -12,12 +12,15 @@ use Rattle.code.specs.Rows.{letters, figures}
 use Rattle.code.proofs.rows.Statement.{statement}
 use Rattle.code.proofs.rows.Tie as tie
 
--- one code more, in the first row and in the second
+-- one code more, in any list; then in the first row and in the second
+turn : (r xs : List ℕ) (c v : ℕ) → c < length r → c < length xs → take c r ≡ take c xs → v ≡ getD xs c 0 → take (c + 1) (set r c v) ≡ take (c + 1) xs
+turn r xs c v h k e z = rw (add-one, take-suc-set r c v h, take-suc xs c 0 k, e, z)
+
 first : (r xs : List ℕ) (c v w : ℕ) → c < length r → c < length xs → take c r ≡ take c xs → v ≡ getD xs c 0 → take (c + 1) (set (set r c v) (32 + c) w) ≡ take (c + 1) xs
-first r xs c v w h k e z = rw (take-set-le (c + 1) (set r c v) (32 + c) w (omega arith), add-one, take-suc-set r c v h, take-suc xs c 0 k, e, z)
+first r xs c v w h k e z = take-set-le (c + 1) (set r c v) (32 + c) w (omega arith) ∙ turn r xs c v h k e z
 
 second : (r xs : List ℕ) (c v w : ℕ) → c < 32 → c < length (drop 32 r) → c < length xs → take c (drop 32 r) ≡ take c xs → w ≡ getD xs c 0 → take (c + 1) (drop 32 (set (set r c v) (32 + c) w)) ≡ take (c + 1) xs
-second r xs c v w l h k e z = rw (drop-set-add 32 (set r c v) c w, drop-set-lt 32 r c v l, add-one, take-suc-set (drop 32 r) c w h, take-suc xs c 0 k, e, z)
+second r xs c v w l h k e z = rw (drop-set-add 32 (set r c v) c w, drop-set-lt 32 r c v l) (turn (drop 32 r) xs c w h k e z)
 
 whole : (r : List ℕ) (c : ℕ) → c ≡ 32 → length r ≡ 64 → take c r ≡ take c letters → take c (drop 32 r) ≡ take c figures → r ≡ letters ++ figures
 whole r c n l e f =

@@ -1,5 +1,6 @@
 -- `convert::capital` meets its contract: its two tests are those of the definition.
 -- Assumes nothing.
+use Prim.Native.Nat.{_≤_}
 use mathlib.Core.Logic.{⊎-elim}
 use borrow.Author.Needs.{needs}
 use borrow.Author.Tests.{le-leb, lt-leb}
@@ -10,7 +11,10 @@ sub-result : tie.Need-sub-result
 sub-result c = search needs
 
 returns : tie.Need-returns
-returns c = simp (le-leb _ _ (c .before .if1 .taken), c .if2 .taken)
+returns c =
+    let b = c .before .before .args .b in
+    let h : b ≤ 122 = search needs in
+    simp (le-leb 97 b (c .before .if1 .taken), le-leb b 122 h)
 
 returns-2 : tie.Need-returns-2
 returns-2 c = ⊎-elim (λ w. simp (le-leb _ _ (w .0 .taken), w .1 .left)) (λ w. simp (lt-leb _ _ (w .left))) (c .if1 .came)
