@@ -5,9 +5,10 @@ use mathlib.Core.Path.{_≡_, refl, ap}
 use mathlib.Core.Bool.{Bool, true, false, _&&_, false≢true}
 use mathlib.Core.List.{List, [], _∷_}
 use native.Mathlib.Omega.{arith}
-use borrow.Author.Tests.{eqb-true, leb-true}
-use lib.Dec.{eqb, leb, lit≤}
+use borrow.Author.Tests.{leb-true}
+use lib.Dec.{leb, lit≤}
 use lib.ListN.{length, getD, set}
+use Rattle.word.specs.Word.{unpacked, isWord}
 use Rattle.laws.proofs.Both.{both}
 use Rattle.settings.specs.Names.{Settings}
 use Rattle.settings.specs.Table.{between, Option, options, allIn, soundStandIn, soundString, soundSettings}
@@ -44,14 +45,19 @@ set-get [] i n l = absurd (omega (arith, l))
 set-get (v ∷ vs) zero n l = refl
 set-get (v ∷ vs) (suc i) n l = set-get vs i n (omega (arith, l))
 
+-- the line ending has eight codes
+pub eight-codes : (s : Settings) → length (endingCodes s) ≡ 8
+unfolding endingCodes
+eight-codes s = refl
+
 -- Sound settings.
 
 module _ (s : Settings) (h : soundSettings s ≡ true) where
-  tests : (allIn options (s .values) ≡ true) × ((soundStandIn s ≡ true) × ((eqb (length (s .string)) 8 && soundString (s .string)) ≡ true))
+  tests : (allIn options (s .values) ≡ true) × ((soundStandIn s ≡ true) × ((isWord (s .string) && soundString (unpacked (s .string))) ≡ true))
   unfolding soundSettings
   tests =
-      let b = both (allIn options (s .values)) (soundStandIn s && (eqb (length (s .string)) 8 && soundString (s .string))) h in
-      (b .0, both (soundStandIn s) (eqb (length (s .string)) 8 && soundString (s .string)) (b .1))
+      let b = both (allIn options (s .values)) (soundStandIn s && (isWord (s .string) && soundString (unpacked (s .string)))) h in
+      (b .0, both (soundStandIn s) (isWord (s .string) && soundString (unpacked (s .string))) (b .1))
 
   -- a value for each option, in its range
   pub values-in : allIn options (s .values) ≡ true
@@ -61,19 +67,18 @@ module _ (s : Settings) (h : soundSettings s ≡ true) where
   pub stand-in-sound : soundStandIn s ≡ true
   stand-in-sound = tests .1 .0
 
-  -- string 90 has eight codes, by its rules
-  pub string-in : (eqb (length (s .string)) 8 && soundString (s .string)) ≡ true
+  -- string 90 is a word, its codes by their rules
+  pub string-in : (isWord (s .string) && soundString (unpacked (s .string))) ≡ true
   string-in = tests .1 .1
 
-  -- the line ending has eight codes
-  pub eight-codes : length (endingCodes s) ≡ 8
-  unfolding endingCodes
-  eight-codes = eqb-true (length (s .string)) 8 (both (eqb (length (s .string)) 8) (soundString (s .string)) string-in .0)
+  -- its upper bits are zero
+  pub string-word : isWord (s .string) ≡ true
+  string-word = both (isWord (s .string)) (soundString (unpacked (s .string))) string-in .0
 
-  -- by its rules
+  -- the line ending is by its rules
   pub ending-sound : soundString (endingCodes s) ≡ true
   unfolding endingCodes
-  ending-sound = both (eqb (length (s .string)) 8) (soundString (s .string)) string-in .1
+  ending-sound = both (isWord (s .string)) (soundString (unpacked (s .string))) string-in .1
 
   -- the limit is in its range
   pub limit-in : between 10 80 (limit s) ≡ true

@@ -9,6 +9,7 @@ use native.Mathlib.Omega.{arith}
 use borrow.Author.Tests.{leb-true, ltb-true, eqb-true}
 use lib.Dec.{eqb, leb, ltb, lit≤}
 use lib.ListN.{length, getD, drop, length-append}
+use Rattle.word.specs.Word.{unpacked}
 use Rattle.message.specs.Message.{digits, numbers, framed}
 use Rattle.message.specs.Find.{AllBytes, Counted}
 use Rattle.message.proofs.Digits.{one-digit, digits-two}
@@ -28,13 +29,13 @@ use Rattle.settings.proofs.Written.{answer-outcome, defined, obey-sound
 -- How long a message of codes is.
 
 -- a code has at most two digits
-code : (n : ℕ) → leb n 31 ≡ true → length (digits n) ≤ 2
-code n h = digits-two n (omega (arith, leb-true n 31 h))
+code : (n : ℕ) → ltb n 32 ≡ true → length (digits n) ≤ 2
+code n h = digits-two n (omega (arith, ltb-true n 32 h))
 
 codes : (cs : List ℕ) → allCodes cs ≡ true → length (numbers cs) ≤ 3 * length cs
 codes [] h = lit≤ tt
 codes (c ∷ cs) h =
-    let b = both (leb c 31) (allCodes cs) h in
+    let b = both (ltb c 32) (allCodes cs) h in
     simp length-append (omega (arith, code c (b .0), codes cs (b .1)))
 
 -- a line ending has an 8 in it
@@ -42,8 +43,8 @@ ending : (cs : List ℕ) → allCodes cs ≡ true → opens cs ≡ true → suc 
 ending [] h o = absurd (false≢true o)
 ending (c ∷ cs) h o = go (eqb c 8) refl (ending cs (b .1)) o
   where
-    b : (leb c 31 ≡ true) × (allCodes cs ≡ true)
-    b = both (leb c 31) (allCodes cs) h
+    b : (ltb c 32 ≡ true) × (allCodes cs ≡ true)
+    b = both (ltb c 32) (allCodes cs) h
 
     go : (a : Bool) → eqb c 8 ≡ a → (opens cs ≡ true → suc (length (numbers cs)) ≤ 3 * length cs) → (a || (early c && opens cs)) ≡ true → suc (length (numbers (c ∷ cs))) ≤ 3 * length (c ∷ cs)
     go true e rest o′ = simp length-append (omega (arith, codes cs (b .1), ap length (one-digit c (omega (arith, eqb-true c 8 e)))))
@@ -67,8 +68,8 @@ speed n = either n 60 _ (lit≤ tt) (either n 66 _ (lit≤ tt) (either n 75 _ (l
 code-bytes : (cs : List ℕ) → allCodes cs ≡ true → AllBytes cs
 code-bytes [] h = tt
 code-bytes (c ∷ cs) h =
-    let b = both (leb c 31) (allCodes cs) h in
-    (le-trans (leb-true c 31 (b .0)) (lit≤ tt), code-bytes cs (b .1))
+    let b = both (ltb c 32) (allCodes cs) h in
+    (omega (arith, ltb-true c 32 (b .0)), code-bytes cs (b .1))
 
 fault-byte : (f : Fault) → numberOf f ≤ 255
 fault-byte fault.Nothing = lit≤ tt
@@ -120,7 +121,7 @@ tells s c r Version h e n f l = rw e (few (r .number ∷ 4 ∷ 0 ∷ 0 ∷ 1 ∷
 tells s c r (Linked last) h e n f l = rw e (link (r .number) last (c .port) (c .speed) (leb-true (r .number) 255 n) (leb-true last 255 f) (l refl))
 tells s c r Unlinked h e n f l = rw e (few (r .number ∷ 0 ∷ []) (leb-true (r .number) 255 n, (lit≤ tt, tt)) refl (lit≤ tt))
 tells s c r (Value i low high) h e n f l = rw e (one (r .number) (getD (s .values) i 0) (leb-true (r .number) 255 n) (option-byte s i low high (r .written) (r .read) (h .settings) f))
-tells s c r String h e n f l = rw e (string (r .number) (s .string) n (ending-sound s (h .settings)) (eight-codes s (h .settings)))
+tells s c r String h e n f l = rw e (string (r .number) (unpacked (s .string)) n (ending-sound s (h .settings)) (eight-codes s))
 tells s c r Factory h e n f l = rw e (few (r .number ∷ 0 ∷ []) (leb-true (r .number) 255 n, (lit≤ tt, tt)) refl (lit≤ tt))
 tells s c r Nowhere h e n f l = rw e (few (r .number ∷ 0 ∷ []) (leb-true (r .number) 255 n, (lit≤ tt, tt)) refl (lit≤ tt))
 

@@ -10,10 +10,12 @@ use lib.Dec.{eqb, leb, ltb}
 use lib.ListN.{length, getD, take, drop, replicate, length-drop}
 use lib.Seq.{length-take-le, take-append-seam}
 use Rattle.laws.proofs.Both.{both}
+use Rattle.word.specs.Word.{unpacked, packed, isWord}
+use Rattle.word.proofs.Words.{codes-packed, below}
 use Rattle.settings.specs.Names.{Verb, Write, Read, Other, Settings, Connection, Home, Version, Linked, Unlinked, Value, String, Factory, Nowhere, Row, Takes, Count, Fault, Stored}
 use Rattle.settings.specs.Names.takes
 use Rattle.settings.specs.Names.fault
-use Rattle.settings.specs.Table.{between, inRange, options, row, isConnection, width, takesIf, takenBy, factory, soundString, soundStandIn, soundSettings, soundLink, soundConnection}
+use Rattle.settings.specs.Table.{between, inRange, allCodes, padded, opens, options, row, isConnection, width, takesIf, takenBy, factory, soundString, soundStandIn, soundSettings, soundLink, soundConnection}
 use Rattle.settings.specs.Command.{faultOf, together, kept, withValue, withString, store, obey, valuesAt, numbersAt, reading, outcome, answered, wrong, commanded}
 use Rattle.settings.specs.Laws.{answerOf, readBy, Sound}
 use Rattle.settings.proofs.Accept.{Accepted, accepted, judged, success}
@@ -58,6 +60,21 @@ two [] e = absurd (omega (arith, e))
 two (a ∷ []) e = absurd (omega (arith, e))
 two (a ∷ b ∷ ps) e = refl
 
+-- eight parameters that are codes, packed and taken apart, are themselves; and they make a word
+module _ (ps : List ℕ) (nine : length ps ≡ 9) (rules : soundString (take 8 ps) ≡ true) where
+  eight : length (take 8 ps) ≡ 8
+  eight = length-take-le 8 ps (omega (arith, nine))
+
+  string-codes : allCodes (take 8 ps) ≡ true
+  unfolding soundString
+  string-codes = both (allCodes (take 8 ps)) (padded (take 8 ps) && opens (take 8 ps)) rules .0
+
+  pub string-back : unpacked (packed (take 8 ps)) ≡ take 8 ps
+  string-back = codes-packed (take 8 ps) eight string-codes
+
+  string-fits : isWord (packed (take 8 ps)) ≡ true
+  string-fits = below (take 8 ps) eight string-codes
+
 -- the place of an option is one of the settings'
 place-in : (i low high : ℕ) (w r : Bool) → fitsHome (Value i low high) w r ≡ true → i < length options
 place-in i low high w r f =
@@ -65,14 +82,14 @@ place-in i low high w r f =
     ltb-true i (length options) (both (ltb i (length options)) (leb high 255) (both (ltb i (length options) && leb high 255) _ b .0) .0)
 
 module _ (s : Settings) (c : Connection) (ps : List ℕ) (nine : length ps ≡ 9) (all : length (s .values) ≡ length options) where
-  stored-values : (h : Home) (n : ℕ) (w r : Bool) → fitsHome h w r ≡ true → w ≡ true → valuesAt (store s c h n ps .settings) (store s c h n ps .connection) h ≡ take (width h) ps
-  stored-values Version n w r f e = absurd (false≢true (rw e at f))
-  stored-values (Linked last) n w r f e = sym (two ps nine)
-  stored-values Unlinked n w r f e = refl
-  stored-values (Value i low high) n w r f e = rw (one ps nine, set-get (s .values) i (getD ps 0 0) (rw all (place-in i low high w r f)))
-  stored-values String n w r f e = refl
-  stored-values Factory n w r f e = refl
-  stored-values Nowhere n w r f e = absurd (false≢true (rw e at f))
+  stored-values : (h : Home) (n : ℕ) (w r : Bool) → fitsHome h w r ≡ true → w ≡ true → inRange h ps ≡ true → valuesAt (store s c h n ps .settings) (store s c h n ps .connection) h ≡ take (width h) ps
+  stored-values Version n w r f e i = absurd (false≢true (rw e at f))
+  stored-values (Linked last) n w r f e i = sym (two ps nine)
+  stored-values Unlinked n w r f e i = refl
+  stored-values (Value p low high) n w r f e i = rw (one ps nine, set-get (s .values) p (getD ps 0 0) (rw all (place-in p low high w r f)))
+  stored-values String n w r f e i = string-back ps nine i
+  stored-values Factory n w r f e i = refl
+  stored-values Nowhere n w r f e i = absurd (false≢true (rw e at f))
 
 -- a write answers under its own id
 own : (s : Settings) (c : Connection) (h : Home) (r : Row) (ps : List ℕ) → row (r .number) ≡ r → r .home ≡ h → reading (store s c h (r .number) ps) r ≡ numbersAt (store s c h (r .number) ps .settings) (store s c h (r .number) ps .connection) r
@@ -103,7 +120,7 @@ module _ (s : Settings) (c : Connection) (count : ℕ) (fields : List ℕ) (elev
       let t = takes-can (r .written) (width (r .home)) (a .n) (a .takes) in
       let l : length (drop 2 fields) ≡ 9 = rw (length-drop, eleven) in
       let f = found id (defined Write id (a .n) (a .takes)) in
-      let v = stored-values s c (drop 2 fields) l all (r .home) (r .number) (r .written) (r .read) (row-fits id) (t .0) in
+      let v = stored-values s c (drop 2 fields) l all (r .home) (r .number) (r .written) (r .read) (row-fits id) (t .0) (a .inside) in
       rw (success s c Write count fields ok, answer-outcome, own s c (r .home) r (drop 2 fields) (ap row f) refl, v, values-long 0 (drop 2 fields) (r .home) l, f, a .number, ← t .1)
 
 -- 1 reads the connection
@@ -175,9 +192,9 @@ module _ (s : Settings) (c : Connection) (h : Sound s c) where
       let p : between (lowAt options i) (highAt options i) n ≡ true = rw (← eqb-true low (lowAt options i) (at .0), ← eqb-true high (highAt options i) (at .1)) b in
       rw (set-in options (s .values) i n (values-in s (h .settings)) p, d, string-in s (h .settings))
 
-  string-sound : (ps : List ℕ) → length ps ≡ 9 → soundString (take 8 ps) ≡ true → soundStandIn (withString s (take 8 ps)) ≡ true → soundSettings (withString s (take 8 ps)) ≡ true
+  string-sound : (ps : List ℕ) → length ps ≡ 9 → soundString (take 8 ps) ≡ true → soundStandIn (withString s (packed (take 8 ps))) ≡ true → soundSettings (withString s (packed (take 8 ps))) ≡ true
   unfolding soundSettings
-  string-sound ps l r d = rw (values-in s (h .settings), d, length-take-le 8 ps (omega (arith, l)), r)
+  string-sound ps l r d = rw (values-in s (h .settings), d, string-fits ps l r, string-back ps l r, r)
 
   link-sound : (r : Row) (g : Home) (ps : List ℕ) → row (r .number) ≡ r → r .home ≡ g → soundLink g (store s c g (r .number) ps .connection .port) (store s c g (r .number) ps .connection .speed) ≡ true → store s c g (r .number) ps .connection .mode ≡ r .number → soundConnection (store s c g (r .number) ps .connection) ≡ true
   unfolding soundConnection

@@ -5,6 +5,7 @@ use mathlib.Core.Bool.{Bool, true, false, cond, _&&_, _||_}
 use mathlib.Core.List.{List, [], _∷_, _++_}
 use lib.Dec.{eqb}
 use lib.ListN.{length, getD, take, drop, set, replicate}
+use Rattle.word.specs.Word.{unpacked, packed}
 use Rattle.settings.specs.Names.{Verb, Write, Read, Other, Settings, Connection, Home, Version, Linked, Unlinked, Value, String, Factory, Nowhere, Row, Takes, Count, Fault, Stored, Outcome}
 use Rattle.settings.specs.Names.takes
 use Rattle.settings.specs.Names.fault
@@ -84,7 +85,7 @@ abbrev pub withValue : Settings → ℕ → ℕ → Settings
 withValue s place x = record { values = set (s .values) place x; string = s .string }
 
 -- string 90 changed
-abbrev pub withString : Settings → List ℕ → Settings
+abbrev pub withString : Settings → ℕ → Settings
 withString s x = record { values = s .values; string = x }
 
 -- a connection
@@ -97,7 +98,7 @@ store s c Version n ps = kept s c
 store s c (Linked last) n ps = joined s (link n (getD ps 0 0) (getD ps 1 0))
 store s c Unlinked n ps = joined s (link n 0 0)
 store s c (Value place low high) n ps = kept (withValue s place (getD ps 0 0)) c
-store s c String n ps = kept (withString s (take 8 ps)) c
+store s c String n ps = kept (withString s (packed (take 8 ps))) c
 store s c Factory n ps = kept factory c
 store s c Nowhere n ps = kept s c
 
@@ -115,7 +116,7 @@ valuesAt s c Version = 0 ∷ 0 ∷ 1 ∷ 0 ∷ []
 valuesAt s c (Linked last) = c .port ∷ c .speed ∷ []
 valuesAt s c Unlinked = []
 valuesAt s c (Value place low high) = getD (s .values) place 0 ∷ []
-valuesAt s c String = s .string
+valuesAt s c String = unpacked (s .string)
 valuesAt s c Factory = []
 valuesAt s c Nowhere = []
 

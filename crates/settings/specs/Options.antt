@@ -3,6 +3,7 @@ use Prim.Native.Nat.{ℕ}
 use mathlib.Core.Bool.{Bool}
 use mathlib.Core.List.{List}
 use lib.Dec.{eqb}
+use Rattle.word.specs.Word.{unpacked}
 use Rattle.settings.specs.Names.{Settings}
 use Rattle.settings.specs.Table.{valueOf}
 
@@ -38,6 +39,6 @@ reports o = isOn (valueOf o 74)
 unfoldable pub standIn : Settings → ℕ
 standIn o = valueOf o 77
 
--- string 90: the line ending
+-- string 90: the eight codes of the line ending
 unfoldable pub endingCodes : Settings → List ℕ
-endingCodes o = o .string
+endingCodes o = unpacked (o .string)

@@ -3,8 +3,9 @@ use Prim.Native.Nat.{ℕ, zero, suc}
 use mathlib.Core.Bool.{Bool, true, false, cond, _&&_, _||_}
 use mathlib.Core.List.{List, [], _∷_}
 use lib.Dec.{eqb, leb}
-use lib.ListN.{length, getD, take}
+use lib.ListN.{getD, take}
 use Rattle.code.specs.Convert.{conversion}
+use Rattle.word.specs.Word.{allBelow, unpacked, packed, isWord}
 use Rattle.settings.specs.Names.{Conversion, Nothing, Free, Cased, Verb, Write, Read, Other, Settings, Connection, Home, Version, Linked, Unlinked, Value, String, Factory, Nowhere, Row, Takes, Count}
 use Rattle.settings.specs.Names.takes
 
@@ -20,8 +21,7 @@ isSpeed n = eqb n 60 || (eqb n 66 || (eqb n 75 || eqb n 100))
 
 -- codes are 0 to 31
 abbrev pub allCodes : List ℕ → Bool
-allCodes [] = true
-allCodes (c ∷ cs) = leb c 31 && allCodes cs
+allCodes cs = allBelow 32 cs
 
 -- all are 0
 abbrev pub allZero : List ℕ → Bool
@@ -164,7 +164,7 @@ factoryValues (x ∷ xs) = x .factory ∷ factoryValues xs
 
 -- and CR CR LF LTRS LTRS for string 90
 abbrev pub factory : Settings
-factory = record { values = factoryValues options; string = 8 ∷ 8 ∷ 2 ∷ 31 ∷ 31 ∷ 0 ∷ 0 ∷ 0 ∷ [] }
+factory = record { values = factoryValues options; string = packed (8 ∷ 8 ∷ 2 ∷ 31 ∷ 31 ∷ 0 ∷ 0 ∷ 0 ∷ []) }
 
 -- Sound: every setting and the connection in the table's ranges, string 90 by its rules.
 
@@ -189,9 +189,9 @@ isStandIn b = eqb b 0 || (leb 33 b && hasCode (conversion b))
 unfoldable pub soundStandIn : Settings → Bool
 soundStandIn s = isStandIn (valueOf s 77)
 
--- and string 90 with its eight codes, by its rules
+-- and string 90 a word, its eight codes by its rules
 unfoldable pub soundSettings : Settings → Bool
-soundSettings s = allIn options (s .values) && (soundStandIn s && (eqb (length (s .string)) 8 && soundString (s .string)))
+soundSettings s = allIn options (s .values) && (soundStandIn s && (isWord (s .string) && soundString (unpacked (s .string))))
 
 -- port and speed are in the mode's range, and 0 where it has none
 abbrev pub soundLink : Home → ℕ → ℕ → Bool

@@ -98,7 +98,7 @@ fn tell(stored: Stored, r: Row) -> Outcome
         Home::Linked(_) => two(stored, id, c.port, c.speed),
         Home::Unlinked => none(stored, id),
         Home::Value(place, _, _) => one(stored, id, value_at(s, place)),
-        Home::String => eight(stored, id, string),
+        Home::String => eight(stored, id, word::unpack(string)),
         Home::Factory => none(stored, id),
         Home::Nowhere => none(stored, id),
     }

@@ -25,10 +25,10 @@ mod store;
 mod string;
 mod table;
 
-// The settings: the value of each option in the table's order, and string 90, the line ending.
+// The settings: string 90, the line ending, as a word, and the value of each option in the table's order.
 pub struct Settings {
+    pub string: u64,
     pub values: [u8; 7],
-    pub string: [u8; 8],
 }
 
 // The connection: its mode, which is the id that writes it, and its port and speed, 0 where the mode has none.
@@ -88,13 +88,13 @@ pub struct Outcome {
     pub count: usize,
 }
 
-// The factory settings.
+// The factory settings; the number is the word of 8, 8, 2, 31, 31 and three zeros.
 pub fn factory() -> Settings
     ensures { λ r. ⌜ r ≡ factory ⌝ }
 {
     Settings {
+        string: 33523976,
         values: [0, 72, 0, 0, 0, 0, 0],
-        string: [8, 8, 2, 31, 31, 0, 0, 0],
     }
 }
 

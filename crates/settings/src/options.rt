@@ -1,6 +1,6 @@
 // The settings by name.
 ghost use mathlib.Core.Path.{_≡_};
-ghost use Rattle.settings.specs.Options.{endings, limit, onspace, onreturn, filter, reports, standIn, endingCodes};
+ghost use Rattle.settings.specs.Options.{endings, limit, onspace, onreturn, filter, reports, standIn};
 use crate::Settings;
 
 impl Settings {
@@ -60,9 +60,9 @@ impl Settings {
         values[6]
     }
 
-    // String 90: the line ending.
-    pub fn ending_codes(self) -> [u8; 8]
-        ensures { λ r. ⌜ r ≡ endingCodes self ⌝ }
+    // String 90, the line ending, as a word.
+    pub fn ending_word(self) -> u64
+        ensures { λ r. ⌜ r ≡ self .string ⌝ }
     {
         self.string
     }

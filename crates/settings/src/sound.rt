@@ -7,18 +7,23 @@ ghost use Rattle.settings.specs.Table.{inRange, row, options, allIn, has
 use crate::Connection;
 use crate::Home;
 use crate::Settings;
-use crate::string::sound_string;
+use crate::string::is_ending;
 use crate::table::in_range;
+use crate::table::is_between;
 use crate::table::is_link;
 use crate::table::row;
 use code::Conversion;
 
-// Whether the value of an option is in its range.
+// Whether the value of an option is in its range. It is asked for here, and of `in_range` only where the id is no option: with the string
+// in it that is too much to be compiled into each option's test.
 fn option_sound(id: u8, value: u8) -> bool
     ensures { λ r. ⌜ r ≡ inRange (row id .home) (value ∷ replicate 8 0) ⌝ }
 {
     let r = row(id);
     let home = r.home;
+    if let Home::Value(_, low, high) = home {
+        return is_between(low, high, value);
+    }
     in_range(home, [value, 0, 0, 0, 0, 0, 0, 0, 0])
 }
 
@@ -69,7 +74,7 @@ pub fn settings_sound(s: Settings) -> bool
     ensures { λ r. ⌜ r ≡ soundSettings s ⌝ }
 {
     let string = s.string;
-    values_sound(s) & (stand_in_sound(s) & sound_string(string))
+    values_sound(s) & (stand_in_sound(s) & is_ending(string))
 }
 
 // Whether port and speed are in a mode's range.

@@ -27,8 +27,8 @@ impl Settings {
         self
     }
 
-    // The line ending.
-    fn with_string(mut self, x: [u8; 8]) -> Settings
+    // The line ending's word.
+    fn with_string(mut self, x: u64) -> Settings
         ensures { λ r. ⌜ r ≡ withString self x ⌝ }
     {
         self.string = x;
@@ -76,7 +76,7 @@ fn store(s: Settings, c: Connection, home: Home, n: u8, ps: [u8; 9]) -> Stored
         Home::Linked(_) => join(s, link(n, first, second)),
         Home::Unlinked => join(s, link(n, 0, 0)),
         Home::Value(place, _, _) => keep(s.with_value(place, first), c),
-        Home::String => keep(s.with_string(first_eight(ps)), c),
+        Home::String => keep(s.with_string(word::pack(first_eight(ps))), c),
         Home::Factory => keep(crate::factory(), c),
         Home::Nowhere => keep(s, c),
     }

@@ -1,7 +1,9 @@
 // The rules of string 90.
 ghost use mathlib.Core.Path.{_≡_};
-ghost use lib.ListN.{drop};
-ghost use Rattle.settings.specs.Table.{allCodes, allZero, padded, early, opens, soundString};
+ghost use mathlib.Core.Bool.{_&&_};
+ghost use Prim.Native.Nat.{_<_};
+ghost use Rattle.word.specs.Word.{unpacked, isWord};
+ghost use Rattle.settings.specs.Table.{allCodes, padded, early, opens, soundString};
 
 // Whether all are codes.
 fn all_codes(s: [u8; 8]) -> bool
@@ -17,32 +19,16 @@ fn all_codes(s: [u8; 8]) -> bool
     true
 }
 
-// Whether all from a place on are 0.
-fn all_zero(s: [u8; 8], from: usize) -> bool
-    ensures { λ r. ⌜ r ≡ allZero (drop from s) ⌝ }
+// Whether all after the first 0 are 0: nothing is left of the word there.
+fn padded(n: u64) -> bool
+    requires { ⌜ n < 1099511627776 ⌝ }
+    ensures { λ r. ⌜ r ≡ padded (unpacked n) ⌝ }
 {
-    let mut i = from;
-    while i < 8 {
-        if s[i] != 0 {
-            return false;
-        }
-        i += 1;
+    let mut rest = n;
+    while rest % 32 != 0 {
+        rest = rest / 32;
     }
-    true
-}
-
-// Whether all after the first 0 are 0.
-fn padded(s: [u8; 8]) -> bool
-    ensures { λ r. ⌜ r ≡ padded s ⌝ }
-{
-    let mut i = 0;
-    while i < 8 {
-        if s[i] == 0 {
-            return all_zero(s, i + 1);
-        }
-        i += 1;
-    }
-    true
+    rest == 0
 }
 
 // Whether a code may stand before the first 8.
@@ -53,26 +39,33 @@ fn early(c: u8) -> bool
 }
 
 // Whether there is an 8, and before the first only what may stand there.
-fn opens(s: [u8; 8]) -> bool
-    ensures { λ r. ⌜ r ≡ opens s ⌝ }
+fn opens(n: u64) -> bool
+    requires { ⌜ n < 1099511627776 ⌝ }
+    ensures { λ r. ⌜ r ≡ opens (unpacked n) ⌝ }
 {
-    let mut i = 0;
-    while i < 8 {
-        let c = s[i];
-        if c == 8 {
-            return true;
-        }
-        if !early(c) {
-            return false;
-        }
-        i += 1;
+    let mut rest = n;
+    while early((rest % 32) as u8) {
+        rest = rest / 32;
     }
-    false
+    rest % 32 == 8
 }
 
-// Whether the string obeys its rules.
+// Whether a number is a word whose codes end at the first 0 and open as a line ending does.
+pub fn is_ending(n: u64) -> bool
+    ensures { λ r. ⌜ r ≡ (isWord n && (padded (unpacked n) && opens (unpacked n))) ⌝ }
+{
+    if !word::is_word(n) {
+        return false;
+    }
+    padded(n) & opens(n)
+}
+
+// Whether eight numbers are codes that obey the rules.
 pub fn sound_string(s: [u8; 8]) -> bool
     ensures { λ r. ⌜ r ≡ soundString s ⌝ }
 {
-    all_codes(s) & (padded(s) & opens(s))
+    if !all_codes(s) {
+        return false;
+    }
+    is_ending(word::pack(s))
 }

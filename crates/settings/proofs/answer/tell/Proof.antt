@@ -1,8 +1,6 @@
 -- `settings::answer::tell` meets its contract: each home has its own values.
 -- Assumes nothing.
 use borrow.Author.Needs.{needs}
-use mathlib.Core.Path.{_≡_}
-use lib.ListN.{length}
 use Rattle.settings.proofs.answer.tell.Statement.{statement}
 use Rattle.settings.proofs.answer.tell.Tie as tie
 
@@ -36,6 +34,9 @@ one-requires c κs = search needs
 enum-told-4 : tie.Need-enum-told-4
 enum-told-4 c = search needs
 
+unpack-requires : tie.Need-unpack-requires
+unpack-requires c κs = search needs
+
 eight-requires : tie.Need-eight-requires
 eight-requires c κs = search needs
 
@@ -64,9 +65,7 @@ returns-4 : tie.Need-returns-4
 returns-4 c = simp (c .before .before .before .home .given .1, c .one .ensures, c .before .value-at .ensures)
 
 returns-5 : tie.Need-returns-5
-returns-5 c =
-    let n : length (c .before .before .before .before .before .before .args .stored .settings .string) ≡ 8 = search needs in
-    simp (c .before .enum-told4 .given .1, c .eight .ensures, n)
+returns-5 c = simp (c .before .before .enum-told4 .given .1, c .eight .ensures, c .before .unpack .ensures)
 
 returns-6 : tie.Need-returns-6
 returns-6 c = simp (c .before .enum-told5 .given .1, c .none2 .ensures)
@@ -88,6 +87,7 @@ tell-spec =
     value-at-requires
     one-requires
     enum-told-4
+    unpack-requires
     eight-requires
     enum-told-5
     none-requires-2

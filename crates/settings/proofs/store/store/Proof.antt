@@ -49,6 +49,9 @@ enum-told-4 c = search needs
 first-eight-requires : tie.Need-first-eight-requires
 first-eight-requires c κs = search needs
 
+pack-requires : tie.Need-pack-requires
+pack-requires c κs = search needs
+
 with-string-requires : tie.Need-with-string-requires
 with-string-requires c κs = search needs
 
@@ -83,7 +86,7 @@ returns-4 : tie.Need-returns-4
 returns-4 c = simp (c .before .before .before .home .given .1, c .keep2 .ensures, c .before .with-value .ensures)
 
 returns-5 : tie.Need-returns-5
-returns-5 c = simp (c .before .before .before .enum-told4 .given .1, c .keep3 .ensures, c .before .with-string .ensures, c .before .before .first-eight .ensures)
+returns-5 c = simp (c .before .before .before .before .enum-told4 .given .1, c .keep3 .ensures, c .before .with-string .ensures, c .before .before .pack .ensures, c .before .before .before .first-eight .ensures)
 
 returns-6 : tie.Need-returns-6
 returns-6 c = simp (c .before .before .enum-told5 .given .1, c .keep4 .ensures, c .before .factory .ensures)
@@ -110,6 +113,7 @@ store-spec =
     keep-requires-2
     enum-told-4
     first-eight-requires
+    pack-requires
     with-string-requires
     keep-requires-3
     enum-told-5

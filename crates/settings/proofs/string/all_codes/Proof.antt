@@ -1,10 +1,10 @@
 -- `settings::string::all_codes` meets its contract. The loop's invariant: all are codes if those from place `i` on are.
 -- Assumes nothing.
-use Prim.Native.Nat.{_-_}
+use Prim.Native.Nat.{_-_, suc-le-suc}
 use mathlib.Core.Path.{_≡_, refl, sym}
 use native.Mathlib.Omega.{arith}
 use borrow.Author.Needs.{needs}
-use borrow.Author.Tests.{le-leb, lt-leb}
+use borrow.Author.Tests.{lt-ltb, le-ltb}
 use lib.ListN.{length, drop}
 use Rattle.settings.specs.Table.{allCodes}
 use Rattle.settings.proofs.Walk as walk
@@ -28,7 +28,7 @@ returns c =
     let s = c .before .before .before .args .t1 in
     let l = c .before .before .loop in
     let n : length s ≡ 8 = c .before .before .before .good .0 .1 .0 .1 in
-    sym (simp (lt-leb _ _ (c .if1 .taken)) at (walk.at allCodes s (l .i) (allCodes s) (omega arith) (l .inv)))
+    sym (simp (le-ltb _ _ (c .if1 .taken)) at (walk.at allCodes s (l .i) (allCodes s) (omega arith) (l .inv)))
 
 add-i : tie.Need-add-i Inv-loop μ-loop
 add-i c = search needs
@@ -41,7 +41,7 @@ loop-again c =
     let s = c .before .before .before .args .t1 in
     let l = c .before .before .loop in
     let n : length s ≡ 8 = c .before .before .before .good .0 .1 .0 .1 in
-    simp (le-leb _ _ (c .if1 .left)) at (walk.at allCodes s (l .i) (allCodes s) (omega arith) (l .inv))
+    simp (lt-ltb _ _ (suc-le-suc (c .if1 .left))) at (walk.at allCodes s (l .i) (allCodes s) (omega arith) (l .inv))
 
 returns-2 : tie.Need-returns-2 Inv-loop μ-loop
 returns-2 c =

@@ -1,22 +1,32 @@
--- `settings::string::sound_string` meets its contract: its three tests are those of `soundString`.
+-- `settings::string::sound_string` meets its contract: what is packed are codes, and their word's rules are theirs.
 -- Assumes nothing.
+use mathlib.Core.Path.{sym, _∙_}
 use borrow.Author.Needs.{needs}
+use borrow.Author.Tests.{not-true, not-false}
 use Rattle.settings.specs.Table.{soundString}
+use Rattle.settings.proofs.Strings.{string-word}
 use Rattle.settings.proofs.string.sound_string.Statement.{statement}
 use Rattle.settings.proofs.string.sound_string.Tie as tie
 
 all-codes-requires : tie.Need-all-codes-requires
 all-codes-requires c κs = search needs
 
-padded-requires : tie.Need-padded-requires
-padded-requires c κs = search needs
-
-opens-requires : tie.Need-opens-requires
-opens-requires c κs = search needs
-
 returns : tie.Need-returns
 unfolding soundString
-returns c = simp (c .before .before .all-codes .ensures, c .before .padded .ensures, c .opens .ensures)
+returns c = rw (sym (c .before .all-codes .ensures) ∙ not-true _ (c .if1 .taken))
+
+pack-requires : tie.Need-pack-requires
+pack-requires c κs = search needs
+
+is-ending-requires : tie.Need-is-ending-requires
+is-ending-requires c κs = search needs
+
+returns-2 : tie.Need-returns-2
+returns-2 c =
+    let i = c .before .before in
+    let b = i .before .before in
+    rw (c .is-ending .ensures, c .before .pack .ensures) (string-word (b .args .s) (b .good .0 .1 .0 .1) (sym (i .before .all-codes .ensures) ∙ not-false _ (i .if1 .left)))
 
 pub sound-string-spec : {M : Type 1} → statement M
-sound-string-spec = tie.close (tie.spec all-codes-requires padded-requires opens-requires returns)
+sound-string-spec =
+    tie.close (tie.spec all-codes-requires returns pack-requires is-ending-requires returns-2)
