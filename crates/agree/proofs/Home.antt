@@ -103,7 +103,7 @@ sound o h =
     let limits = both (leb 10 (limit o)) (leb (limit o) 80) (limit-in o h) in
     let string = both (allCodes (endingCodes o)) (padded (endingCodes o) && opens (endingCodes o)) (ending-sound o h) in
     let opened = sound-opens (endingCodes o) (both (padded (endingCodes o)) (opens (endingCodes o)) (string .1) .1) in
-    let short : length (untilZero (endingCodes o)) ≤ 8 = omega (arith, until-length (endingCodes o), eight-codes o h) in
+    let short : length (untilZero (endingCodes o)) ≤ 8 = omega (arith, until-length (endingCodes o), eight-codes o) in
     record {
       least = leb-true 10 (limit o) (limits .0);
       most = leb-true (limit o) 80 (limits .1);

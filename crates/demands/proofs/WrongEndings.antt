@@ -2,7 +2,7 @@
 -- codes, so the codes' count of both tells how many endings there are, and what is left for the byte's own.
 -- Assumes nothing.
 use Prim.Native.Nat.{ℕ, _+_, _*_, _≤_}
-use mathlib.Core.Path.{_≡_, refl, sym, ap, _∙_}
+use mathlib.Core.Path.{_≡_, refl, sym, ap, subst, _∙_}
 use mathlib.Core.Bool.{Bool, true, false, cond, false≢true}
 use mathlib.Core.List.{List, [], _∷_, _++_}
 use native.Mathlib.Omega.{arith}
@@ -124,6 +124,10 @@ module _ (o : Settings) (string : endingCodes o ≡ endingCodes factory) (p : Pr
   ended-prints on = record {
     stretches = record { ending = true; codes = 8 ∷ 8 ∷ 2 ∷ 31 ∷ 31 ∷ [] } ∷ record { ending = false; codes = 15 ∷ [] } ∷ [];
     whole = refl;
-    endings = (λ e. (on, rw string (GoesOut.Alone (GoesOut.Alone (GoesOut.Alone (GoesOut.Alone (GoesOut.Alone GoesOut.End)))))), (λ e. absurd (false≢true e), tt));
+    endings = (
+      λ e.
+          (on, subst (λ (cs : List ℕ). GoesOut o (untilZero cs) (8 ∷ 8 ∷ 2 ∷ 31 ∷ 31 ∷ [])) (sym string) (GoesOut.Alone (GoesOut.Alone (GoesOut.Alone (GoesOut.Alone (GoesOut.Alone GoesOut.End)))))),
+      (λ e. absurd (false≢true e), tt),
+    );
     own = refl;
   }

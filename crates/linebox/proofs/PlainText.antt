@@ -14,8 +14,6 @@ use Rattle.command.specs.declared.Stage.{Stage}
 use Rattle.command.specs.declared.Stage.the-variants as stage
 use Rattle.command.specs.Read.{read, readAt, afresh, at, idle}
 use Rattle.code.specs.Kinds.{kindOf}
-use Rattle.settings.specs.Options.{endingCodes}
-use Rattle.settings.proofs.Held.{eight-codes}
 use Rattle.sender.specs.Item.{items, wantedBy, wantedText}
 use Rattle.sender.specs.Run.{asksNext, caseAsked, stopsAt, Run, most, runOf, SendsRun}
 use Rattle.sender.specs.declared.Sent.{Sent}
@@ -46,10 +44,6 @@ keeps-text o (Codes case) b h = h
 keeps-codes : (o : Settings) (a : Asks) (b : ℕ) → asCodes a ≡ true → asCodes (asksNext o a b) ≡ true
 keeps-codes o Text b h = h
 keeps-codes o (Codes case) b h = h
-
--- string 90 of a sound state
-eight-sound : (s : State) → sound s ≡ true → length (endingCodes (s .settings)) ≡ 8
-eight-sound s ok = eight-codes (s .settings) (sound-parts s ok .held .settings)
 
 -- no byte taken
 pub unmoved : (t : Stream) (s : State) (input old : List ℕ) → sound s ≡ true → Runs t s input old old (record { state = s; taken = 0; count = 0 })
@@ -93,10 +87,10 @@ plain-text s m x Text b h e =
 plain-text s m x (Codes case) b h e = absurd (false≢true h)
 
 -- the first byte of a run is read as if no field had ever been
-first-same : (s : State) → length (endingCodes (s .settings)) ≡ 8 → (xs : List ℕ) (room more : ℕ) → isPrinter (route (s .connection) Host) ≡ true → isText (s .reader .stage) ≡ true
+first-same : (s : State) (xs : List ℕ) (room more : ℕ) → isPrinter (route (s .connection) Host) ≡ true → isText (s .reader .stage) ≡ true
     → (runOf (s .settings) (s .sender) Text (Byte 47) xs room .taken ≡ 0 → ⊥) → taking Host s xs room more ≡ taking Host (texting s (s .sender)) xs room more
-first-same s eight [] room more m h n = absurd (n refl)
-first-same s eight (b ∷ xs) room more m h n = go (eqb b 47) refl (leb most room) refl n
+first-same s [] room more m h n = absurd (n refl)
+first-same s (b ∷ xs) room more m h n = go (eqb b 47) refl (leb most room) refl n
   where
     go : (z : Bool) → eqb b 47 ≡ z → (fit : Bool) → leb most room ≡ fit → (runOf (s .settings) (s .sender) Text (Byte 47) (b ∷ xs) room .taken ≡ 0 → ⊥)
         → taking Host s (b ∷ xs) room more ≡ taking Host (texting s (s .sender)) (b ∷ xs) room more
@@ -104,7 +98,7 @@ first-same s eight (b ∷ xs) room more m h n = go (eqb b 47) refl (leb most roo
     go false e false f n = absurd (n (rw (e, f)))
     go false e true f n =
         let p = plain-text s m (s .sender) Text b refl e in
-        let fits = most-fits Host (s .settings) (λ y z. texting s y) eight (s .sender) Text b room more p f in
+        let fits = most-fits Host (s .settings) (λ y z. texting s y) (s .sender) Text b room more p f in
         let u : hostStep s b ≡ hostStep (texting s (s .sender)) b = text-step s b m h e ∙ sym (text-step (texting s (s .sender)) b m refl e) in
         rw (u, fits)
 
@@ -123,7 +117,6 @@ module _ (s : State) (ok : sound s ≡ true) (m : isPrinter (route (s .connectio
   -- some were
   pub text-runs : (x .taken ≡ 0 → ⊥) → Runs Host s input old now (record { state = texting s (x .sender); taken = x .taken; count = x .count })
   text-runs z =
-      let eight = eight-sound s ok in
       let n : d .taken ≡ 0 → ⊥ = λ e. z (ap (λ (u : Sent). u .taken) (f .gives) ∙ e) in
       rw (f .gives) (record {
         new = d .codes;
@@ -132,8 +125,8 @@ module _ (s : State) (ok : sound s ≡ true) (m : isPrinter (route (s .connectio
         places = rw (f .gives) at (f .places);
         rest =
             λ room.
-            first-same s eight input (length old) room m h n
-            ∙ plainly Host (s .settings) (λ y z. texting s y) eight (Byte 47) asText (keeps-text (s .settings)) (plain-text s m) input (s .sender) Text (length old) room refl;
+            first-same s input (length old) room m h n
+            ∙ plainly Host (s .settings) (λ y z. texting s y) (Byte 47) asText (keeps-text (s .settings)) (plain-text s m) input (s .sender) Text (length old) room refl;
       })
 
 -- TU codes.
@@ -169,5 +162,5 @@ codes-run s ok m input old now x f =
       within = run-within (s .settings) (s .sender) (Codes (s .incoming)) (Above 31) input (length old);
       kept = coding-sound s (d .sender) (d .asks) ok;
       places = rw (f .gives) at (f .places);
-      rest = λ room. plainly Tu (s .settings) (coding s) (eight-sound s ok) (Above 31) asCodes (keeps-codes (s .settings)) (plain-codes s m) input (s .sender) (Codes (s .incoming)) (length old) room refl;
+      rest = λ room. plainly Tu (s .settings) (coding s) (Above 31) asCodes (keeps-codes (s .settings)) (plain-codes s m) input (s .sender) (Codes (s .incoming)) (length old) room refl;
     })

@@ -9,7 +9,6 @@ use native.Mathlib.Nat.{zero-add, sub-zero}
 use borrow.Author.Tests.{le-leb, leb-true}
 use lib.Dec.{leb, leb·zero}
 use lib.ListN.{length, drop, length-append}
-use Rattle.settings.specs.Options.{endingCodes}
 use Rattle.sender.specs.Item.{items, afterItems, converted, wantedBy}
 use Rattle.sender.specs.Run.{asksNext, stopsAt, Run, most, runOf}
 use Rattle.sender.proofs.Few.{byte-most}
@@ -43,15 +42,15 @@ module _ (t : Stream) (o : Settings) (st : Sender → Asks → State) where
   one-fits x a b room more p = rw (p .first, p .second, leb·zero, and-true)
 
   -- where the most that a byte can be has room, it fits
-  pub most-fits : length (endingCodes o) ≡ 8 → (x : Sender) (a : Asks) (b : ℕ) (room more : ℕ) → Plain t o st x a b → leb most room ≡ true → fits t (step t (st x a) b) room more ≡ true
-  most-fits eight x a b room more p h =
+  pub most-fits : (x : Sender) (a : Asks) (b : ℕ) (room more : ℕ) → Plain t o st x a b → leb most room ≡ true → fits t (step t (st x a) b) room more ≡ true
+  most-fits x a b room more p h =
       let n = length (items o x (wantedBy o a b)) in
-      one-fits x a b room more p ∙ le-leb n room (omega (arith, byte-most o eight x (converted o a b), leb-true most room h))
+      one-fits x a b room more p ∙ le-leb n room (omega (arith, byte-most o x (converted o a b), leb-true most room h))
 
-  one-more : length (endingCodes o) ≡ 8 → (until : Until) (x : Sender) (a : Asks) (b : ℕ) (xs : List ℕ) (room more : ℕ) → (stopsAt until b ≡ false → Plain t o st x a b)
+  one-more : (until : Until) (x : Sender) (a : Asks) (b : ℕ) (xs : List ℕ) (room more : ℕ) → (stopsAt until b ≡ false → Plain t o st x a b)
       → (let y = afterItems o x (wantedBy o a b) in let r = room - length (items o x (wantedBy o a b)) in Stands y (asksNext o a b) xs r more (runOf o y (asksNext o a b) until xs r))
       → Stands x a (b ∷ xs) room more (runOf o x a until (b ∷ xs) room)
-  one-more eight until x a b xs room more plain rest = go (stopsAt until b) refl (leb most room) refl
+  one-more until x a b xs room more plain rest = go (stopsAt until b) refl (leb most room) refl
     where
       go : (halts : Bool) → stopsAt until b ≡ halts → (fit : Bool) → leb most room ≡ fit → Stands x a (b ∷ xs) room more (runOf o x a until (b ∷ xs) room)
       go true e fit f = rw e (none-stand x a (b ∷ xs) room more)
@@ -61,11 +60,11 @@ module _ (t : Stream) (o : Settings) (st : Sender → Asks → State) where
           let cs = items o x (wantedBy o a b) in
           let d = runOf o (afterItems o x (wantedBy o a b)) (asksNext o a b) until xs (room - length cs) in
           let u : room - length cs - length (d .codes) ≡ room - length (cs ++ d .codes) = omega (arith, length-append cs (d .codes)) in
-          rw (e, f, p .is-taken, most-fits eight x a b room more p f, p .state, p .first, p .second, sub-zero more, rest, u) (nested (d .taken) cs (d .codes) _)
+          rw (e, f, p .is-taken, most-fits x a b room more p f, p .state, p .first, p .second, sub-zero more, rest, u) (nested (d .taken) cs (d .codes) _)
 
   -- the bytes up to the first that stops the run
-  module _ (eight : length (endingCodes o) ≡ 8) (until : Until) (how : Asks → Bool) (keeps : (a : Asks) (b : ℕ) → how a ≡ true → how (asksNext o a b) ≡ true)
+  module _ (until : Until) (how : Asks → Bool) (keeps : (a : Asks) (b : ℕ) → how a ≡ true → how (asksNext o a b) ≡ true)
       (plain : (x : Sender) (a : Asks) (b : ℕ) → how a ≡ true → stopsAt until b ≡ false → Plain t o st x a b) where
     pub plainly : (xs : List ℕ) (x : Sender) (a : Asks) (room more : ℕ) → how a ≡ true → Stands x a xs room more (runOf o x a until xs room)
     plainly [] x a room more h = none-stand x a [] room more
-    plainly (b ∷ xs) x a room more h = one-more eight until x a b xs room more (plain x a b h) (plainly xs _ _ _ more (keeps a b h))
+    plainly (b ∷ xs) x a room more h = one-more until x a b xs room more (plain x a b h) (plainly xs _ _ _ more (keeps a b h))

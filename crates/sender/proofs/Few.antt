@@ -2,7 +2,6 @@
 -- for the byte's own, eighteen at most.
 -- Assumes nothing.
 use Prim.Native.Nat.{ℕ, _*_, _≤_}
-use mathlib.Core.Path.{_≡_}
 use mathlib.Core.Bool.{Bool, true, false, cond, _&&_}
 use mathlib.Core.List.{List, [], _∷_, _++_, append-nil}
 use native.Mathlib.Omega.{arith}
@@ -10,6 +9,7 @@ use lib.Dec.{eqb}
 use lib.ListN.{length, length-append}
 use Rattle.code.specs.Kinds.{kindOf, shifts, moves}
 use Rattle.settings.specs.Options.{onspace, onreturn, filter, endingCodes}
+use Rattle.settings.proofs.Held.{eight-codes}
 use Rattle.sender.specs.Names.{Case, Letters, Figures, Kind, Still, Space, Return, Shift, Char, Conversion, Nothing, Free, Cased, Settings, Known, Is, Record, Wanted, Sender, Text}
 use Rattle.sender.specs.Names.known
 use Rattle.sender.specs.Record.{notes}
@@ -64,9 +64,9 @@ pub text-few : (o : Settings) (bs : List ℕ) → length (wantedText o bs) ≤ l
 text-few o [] = omega arith
 text-few o (b ∷ bs) = rw (length-append (wantedBy o Text b) (wantedText o bs)) (omega (arith, wanted-few (converted o Text b), text-few o bs))
 
-module _ (o : Settings) (eight : length (endingCodes o) ≡ 8) where
+module _ (o : Settings) where
   ending-most : (r : Record) (b : Bool) → length (ending o r b) ≤ 16
-  ending-most r true = omega (arith, ending-length o r (untilZero (endingCodes o)), until-length (endingCodes o), eight)
+  ending-most r true = omega (arith, ending-length o r (untilZero (endingCodes o)), until-length (endingCodes o), eight-codes o)
   ending-most r false = omega arith
 
   character-most : (r : Record) (w : Wanted) → length (character o r w) ≤ 18

@@ -14,7 +14,6 @@ use lib.Seq.{drop-cons}
 use borrow.Author.Tests.{le-leb}
 use Rattle.laws.specs.Written.{Filled}
 use Rattle.laws.proofs.Filled.{filled-none, filled-on}
-use Rattle.settings.specs.Options.{endingCodes}
 use Rattle.sender.specs.Names.{Conversion, Nothing, Free, Cased, Settings, Sender, Asks, Text, Until, Never, Item}
 use Rattle.sender.specs.Item.{items, afterItems, wantedOf, converted, wantedBy, wantedText}
 use Rattle.sender.specs.Run.{isNone, wantedAs, asksNext, stopsAt, Run, noRun, runOn, most, runOf, PutsItems, SendsRun}
@@ -104,15 +103,15 @@ run-within o s asks until (b ∷ bs) room = go (stopsAt until b) (leb most room)
     go false false h = omega arith
 
 -- where each byte's most has room, all of a text goes out
-pub text-run : (o : Settings) → length (endingCodes o) ≡ 8 → (s : Sender) (bs : List ℕ) (room : ℕ) → most * length bs ≤ room
+pub text-run : (o : Settings) (s : Sender) (bs : List ℕ) (room : ℕ) → most * length bs ≤ room
     → runOf o s Text Never bs room ≡ record { sender = afterItems o s (wantedText o bs); asks = Text; taken = length bs; codes = items o s (wantedText o bs) }
-text-run o eight s [] room h = refl
-text-run o eight s (b ∷ bs) room h =
+text-run o s [] room h = refl
+text-run o s (b ∷ bs) room h =
     let ws = wantedBy o Text b in
-    let n = byte-most o eight s (converted o Text b) in
+    let n = byte-most o s (converted o Text b) in
     let u : leb most room ≡ true = le-leb most room (omega (arith, h)) in
     let v : most * length bs ≤ room - length (items o s ws) = omega (arith, h, n) in
-    rw (u, text-run o eight (afterItems o s ws) bs (room - length (items o s ws)) v, items-append o s ws (wantedText o bs), after-append o s ws (wantedText o bs))
+    rw (u, text-run o (afterItems o s ws) bs (room - length (items o s ws)) v, items-append o s ws (wantedText o bs), after-append o s ws (wantedText o bs))
 
 -- no bytes, no codes
 pub run-none : (o : Settings) (s : Sender) (asks : Asks) (until : Until) (bs : List ℕ) (room : ℕ) → runOf o s asks until bs room .taken ≡ 0 → runOf o s asks until bs room .codes ≡ []

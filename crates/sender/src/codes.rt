@@ -6,6 +6,7 @@ ghost use Prim.Native.Nat.{_≤_};
 ghost use lib.Dec.{eqb};
 ghost use lib.ListN.{length};
 ghost use Rattle.laws.specs.Written.{Filled};
+ghost use Rattle.word.specs.Word.{unpacked};
 ghost use Rattle.code.specs.Kinds.{shifts};
 ghost use Rattle.sender.specs.Names.{Letters as Names·Letters};
 ghost use Rattle.sender.specs.Code.{sameCase, isCase, shiftTo, unshift, follow, sendKind};
@@ -124,16 +125,17 @@ fn is_end(c: u8) -> bool
     c == 0
 }
 
-// A string's codes as an ending, up to its first 0.
-pub fn put_ending(o: Settings, start: Record, string: [u8; 8], out: &mut [u8]) -> Noted
-    requires { ⌜ length (endingOf o start (untilZero string)) ≤ length (now out) ⌝ }
-    ensures { λ r. ⌜ Notes o start (endingOf o start (untilZero string)) (now (out .entry)) (now (out .exit)) r ⌝ }
+// The codes of a string's word as an ending, up to the first 0.
+pub fn put_ending(o: Settings, start: Record, string: u64, out: &mut [u8]) -> Noted
+    requires { ⌜ length (endingOf o start (untilZero (unpacked string))) ≤ length (now out) ⌝ }
+    ensures { λ r. ⌜ Notes o start (endingOf o start (untilZero (unpacked string))) (now (out .entry)) (now (out .exit)) r ⌝ }
 {
     let mut held = start;
     let mut count = 0;
-    let mut i = 0;
-    while i < 8 {
-        let c = string[i];
+    let mut rest = string;
+    let mut left: u8 = 8;
+    while 0 < left {
+        let c = (rest % 32) as u8;
         if is_end(c) {
             return Noted { held, count };
         }
@@ -143,7 +145,8 @@ pub fn put_ending(o: Settings, start: Record, string: [u8; 8], out: &mut [u8]) -
         let n = put_code(o, case, want, c, k, &mut out[count..]);
         held = after(o, held, want, k);
         count += n;
-        i += 1;
+        rest = rest / 32;
+        left -= 1;
     }
     Noted { held, count }
 }

@@ -48,7 +48,7 @@ fn end_before(o: Settings, held: Record, strikes: bool, out: &mut [u8]) -> Noted
     ensures { λ r. ⌜ Notes o held (ending o held (strikes && due o (held .column))) (now (out .entry)) (now (out .exit)) r ⌝ }
 {
     let col = held.column;
-    let string = o.ending_codes();
+    let string = o.ending_word();
     if is_ended(o, col, strikes) {
         return put_ending(o, held, string, out);
     }
@@ -62,7 +62,7 @@ fn end_before_free(o: Settings, held: Record, moves: bool, out: &mut [u8]) -> No
     ensures { λ r. ⌜ Notes o held (ending o held (moves && due o (held .column))) (now (out .entry)) (now (out .exit)) r ⌝ }
 {
     let col = held.column;
-    let string = o.ending_codes();
+    let string = o.ending_word();
     if is_ended(o, col, moves) {
         return put_ending(o, held, string, out);
     }

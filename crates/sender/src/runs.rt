@@ -4,7 +4,6 @@ ghost use Prim.Native.Nat.{_≤_, _<_};
 ghost use lib.Dec.{leb};
 ghost use lib.ListN.{length};
 ghost use Rattle.convert.specs.Entry.{Tabled};
-ghost use Rattle.settings.specs.Options.{endingCodes};
 ghost use Rattle.sender.specs.Item.{items, wantedOf, standing, spoken, converted};
 ghost use Rattle.sender.specs.Run.{isNone, wantedAs, asksNext, caseAsked, stopsAt, PutsItems, most, runOf, SendsRun};
 use crate::Asks;
@@ -115,18 +114,11 @@ fn stops(until: Until, b: u8) -> bool
     }
 }
 
-// The most codes that a byte can be: two for each of string 90's codes, and two for its own.
-fn most(string: [u8; 8]) -> usize
-    ensures { λ r. ⌜ (r ≡ most) × (length string ≡ 8) ⌝ }
+// Whether any byte's codes have room: two for each of string 90's eight, and two for its own.
+fn has_room(room: usize) -> bool
+    ensures { λ r. ⌜ r ≡ leb most room ⌝ }
 {
-    2 * string.len() + 2
-}
-
-// Whether any byte's codes have room.
-fn has_room(o: Settings, room: usize) -> bool
-    ensures { λ r. ⌜ (r ≡ leb most room) × (length (endingCodes o) ≡ 8) ⌝ }
-{
-    most(o.ending_codes()) <= room
+    18 <= room
 }
 
 // The item of a byte, if it has a code.
@@ -178,7 +170,7 @@ pub fn send(
         if stops(until, b) {
             return sent(sender, asks, taken, count);
         }
-        if !has_room(o, out.len() - count) {
+        if !has_room(out.len() - count) {
             return sent(sender, asks, taken, count);
         }
         let x = convert_as(o, asks, &table, b);

@@ -10,7 +10,6 @@ use borrow.Author.Tests.{le-leb, lt-leb}
 use lib.ListN.{length, take, drop}
 use lib.Seq.{take-append-seam}
 use Rattle.message.specs.Made.{Put}
-use Rattle.settings.specs.Options.{endingCodes}
 use Rattle.sender.specs.declared.Sent.{Sent}
 use Rattle.sender.specs.Item.{items, afterItems, wanted, wantedText}
 use Rattle.sender.specs.Run.{asksNext, caseAsked, Run, runOf, SendsRun}
@@ -34,12 +33,12 @@ made d old now x f = rw (f .places .places, f .places .count) (take-append-seam 
 
 module _ (s : State) (room codes : List ℕ) (x : Sent) (wide : length room ≡ 36) (out now : List ℕ) (r : Took) where
   -- host text
-  pub text-put : length (endingCodes (s .settings)) ≡ 8 → (bs : List ℕ) → length bs ≤ 2
+  pub text-put : (bs : List ℕ) → length bs ≤ 2
       → SendsRun (runOf (s .settings) (s .sender) Text Never bs (length room)) room codes x
       → Puts (withSender s (x .sender)) (take (x .count) codes) out now r
       → Puts (sends s (wantedText (s .settings) bs) .state) (sends s (wantedText (s .settings) bs) .line) out now r
-  text-put eight bs h f p =
-      let e = text-run (s .settings) eight (s .sender) bs (length room) (omega (arith, h, wide)) in
+  text-put bs h f p =
+      let e = text-run (s .settings) (s .sender) bs (length room) (omega (arith, h, wide)) in
       let a : x .sender ≡ afterItems (s .settings) (s .sender) (wantedText (s .settings) bs) = ap (λ (u : Sent). u .sender) (f .gives) ∙ ap (λ (u : Run). u .sender) e in
       let m : take (x .count) codes ≡ items (s .settings) (s .sender) (wantedText (s .settings) bs) = made _ room codes x f ∙ ap (λ (u : Run). u .codes) e in
       rw (a, m) at p

@@ -43,15 +43,15 @@ pub struct State {
 
 // One byte's output put into one buffer: whether all of it fits, the state after the byte, and how many places were written.
 pub struct Took {
-    pub fits: bool,
     pub state: State,
     pub count: usize,
+    pub fits: bool,
 }
 
 // One byte's output put into both buffers: whether all of it fits, the state after the byte, and how many places were written.
 pub struct Taken {
-    pub fits: bool,
     pub state: State,
     pub first: usize,
     pub second: usize,
+    pub fits: bool,
 }

@@ -2,7 +2,6 @@
 ghost use mathlib.Core.Path.{_≡_};
 ghost use Prim.Native.Nat.{_≤_};
 ghost use lib.ListN.{length, take};
-ghost use Rattle.settings.specs.Laws.{Sound};
 ghost use Rattle.sender.specs.Item.{wantedText};
 ghost use Rattle.step.specs.Names.{Host as Names·Host};
 ghost use Rattle.step.specs.Route.{route};
@@ -38,7 +37,7 @@ fn put_codes(s: State, codes: [u8; 36], n: usize, out: &mut [u8]) -> Took
 
 // Text to the printer: a byte, and before it the `/` where that was held. All codes are made before one is put.
 fn put_items(s: State, bytes: &[u8], out: &mut [u8]) -> Took
-    requires { ⌜ (length (now bytes) ≤ 2) × Sound (s .settings) (s .connection) ⌝ }
+    requires { ⌜ length (now bytes) ≤ 2 ⌝ }
     ensures { λ r. ⌜
         Puts (sends s (wantedText (s .settings) (now (bytes .entry))) .state) (sends s (wantedText (s .settings) (now (bytes .entry))) .line) (now (out .entry)) (now (out .exit)) r
         ⌝ }
@@ -60,7 +59,7 @@ fn put_items(s: State, bytes: &[u8], out: &mut [u8]) -> Took
 
 // Text to the printer, where that is its route; otherwise it is dropped.
 pub fn put_text(s: State, bytes: &[u8], out: &mut [u8]) -> Took
-    requires { ⌜ (length (now bytes) ≤ 2) × Sound (s .settings) (s .connection) ⌝ }
+    requires { ⌜ length (now bytes) ≤ 2 ⌝ }
     ensures { λ r. ⌜
         Puts (sends s (text (s .settings) (route (s .connection) Names·Host) (now (bytes .entry))) .state) (sends s (text (s .settings) (route (s .connection) Names·Host) (now (bytes .entry))) .line) (now (out .entry)) (now (out .exit)) r
         ⌝ }

@@ -1,11 +1,15 @@
--- `sender::codes::put_ending` meets its contract. The invariant: the codes sent so far stand before the rest of the string.
+-- `sender::codes::put_ending` meets its contract. The invariant: the codes sent so far stand before those left in the word.
 -- Assumes nothing.
-use Prim.Native.Nat.{_≤_, _<_, _+_, _-_}
-use mathlib.Core.Path.{_≡_, refl}
+use Prim.Native.Nat.{_≤_, _-_, _/_, _%_}
+use mathlib.Core.Path.{_≡_}
+use mathlib.Core.List.{_∷_}
 use native.Mathlib.Omega.{arith}
 use denote.Ref.{now}
+use lib.Dec.{lit≤}
 use lib.ListN.{length}
 use Rattle.laws.proofs.Filled.{free-length}
+use Rattle.word.specs.Word.{digitsBy, unpacked}
+use Rattle.word.proofs.Words.{digits-none, digits-more}
 use Rattle.sender.specs.Ending.{endingOf, untilZero}
 use Rattle.sender.proofs.Endings.{Ending, ending-start, at-zero, at-end, ending-over, ending-room, ending-turn}
 use borrow.Author.Needs.{needs}
@@ -13,18 +17,18 @@ use Rattle.sender.proofs.codes.put_ending.Statement.{statement}
 use Rattle.sender.proofs.codes.put_ending.Tie as tie
 
 abbrev Inv-loop : tie.InvT-loop
-Inv-loop o out₀ string held₀ count₀ i₀ out held count i = (length (endingOf o held₀ (untilZero string)) ≤ length out₀) × Ending o held₀ string out₀ held i out count
+Inv-loop o string out₀ held₀ count₀ rest₀ left₀ out held count rest left = (length (endingOf o held₀ (untilZero (unpacked string))) ≤ length out₀) × Ending o held₀ (unpacked string) out₀ held (digitsBy 32 left rest) out count
 
 abbrev μ-loop : tie.MeasureT-loop
-μ-loop o out₀ string held₀ count₀ i₀ out held count i = 8 - i
+μ-loop o string out₀ held₀ count₀ rest₀ left₀ out held count rest left = left
 
 loop-holds : tie.Need-loop-holds Inv-loop μ-loop
 loop-holds c =
     let a = c .before .args in
-    (c .before .pre, ending-start (a .o) (a .start) _ (now (a .out)))
+    (c .before .pre, ending-start (a .o) (a .start) (unpacked (a .string)) (now (a .out)))
 
-array-read-c : tie.Need-array-read-c Inv-loop μ-loop
-array-read-c c = search needs
+cast-c : tie.Need-cast-c Inv-loop μ-loop
+cast-c c = search needs
 
 is-end-requires : tie.Need-is-end-requires Inv-loop μ-loop
 is-end-requires c κs = search needs
@@ -36,11 +40,11 @@ returns : tie.Need-returns Inv-loop μ-loop
 returns c =
     let m = c .before .before .before in
     let l = m .loop in
-    let b = m .before .before in
-    let a = b .args in
-    let n : length (a .t3) ≡ 8 = b .good .1 .1 .0 .1 .0 .1 in
-    let h : l .i < length (a .t3) = omega (arith, n, c .before .before .loop-test .taken) in
-    ending-over (a .o) (a .start) (a .t3) (l .held) (l .i) (now (a .out)) (l .out) (l .count) (l .inv .1) (at-zero (a .o) (a .start) (a .t3) (l .held) (l .i) h (rw (c .before .is-end .ensures) at (c .if1 .taken)))
+    let a = m .before .before .args in
+    let others = digitsBy 32 (l .left) (l .rest) in
+    let more = digits-more 32 (lit≤ tt) (l .left) (l .rest) (c .before .before .loop-test .taken) in
+    let over = at-zero (a .o) (a .start) (unpacked (a .string)) (l .held) others (l .rest % 32) (digitsBy 32 (l .left - 1) (l .rest / 32)) more (rw (c .before .is-end .ensures) at (c .if1 .taken)) in
+    ending-over (a .o) (a .start) (unpacked (a .string)) (l .held) others (now (a .out)) (l .out) (l .count) (l .inv .1) over
 
 on-record-requires : tie.Need-on-record-requires Inv-loop μ-loop
 on-record-requires c κs = search needs
@@ -63,12 +67,11 @@ put-code-requires c κs =
     let e = k .before .before in
     let m = e .before .before .before in
     let l = m .loop in
-    let b = m .before .before in
-    let a = b .args in
-    let n : length (a .t3) ≡ 8 = b .good .1 .1 .0 .1 .0 .1 in
-    let h : l .i < length (a .t3) = omega (arith, n, e .before .before .loop-test .taken) in
+    let a = m .before .before .args in
+    let others = digitsBy 32 (l .left) (l .rest) in
+    let more = digits-more 32 (lit≤ tt) (l .left) (l .rest) (e .before .before .loop-test .taken) in
     rw (free-length (l .out) (l .count), k .before .on-record .ensures, k .kind-of .ensures)
-    (ending-room (a .o) (a .start) (a .t3) (l .held) (l .i) h (rw (e .before .is-end .ensures) at (e .if1 .left)) (now (a .out)) (l .out) (l .count) (l .inv .1) (l .inv .0))
+    (ending-room (a .o) (a .start) (unpacked (a .string)) (l .held) others (l .rest % 32) (digitsBy 32 (l .left - 1) (l .rest / 32)) more (rw (e .before .is-end .ensures) at (e .if1 .left)) (now (a .out)) (l .out) (l .count) (l .inv .1) (l .inv .0))
 
 after-requires : tie.Need-after-requires Inv-loop μ-loop
 after-requires c κs = search needs
@@ -76,8 +79,8 @@ after-requires c κs = search needs
 add-count : tie.Need-add-count Inv-loop μ-loop
 add-count c = search needs
 
-add-i : tie.Need-add-i Inv-loop μ-loop
-add-i c = search needs
+sub-left : tie.Need-sub-left Inv-loop μ-loop
+sub-left c = search needs
 
 loop-less : tie.Need-loop-less Inv-loop μ-loop
 loop-less c = search needs
@@ -89,12 +92,11 @@ loop-again c =
     let e = k .before .before in
     let m = e .before .before .before in
     let l = m .loop in
-    let b = m .before .before in
-    let a = b .args in
-    let n : length (a .t3) ≡ 8 = b .good .1 .1 .0 .1 .0 .1 in
-    let h : l .i < length (a .t3) = omega (arith, n, e .before .before .loop-test .taken) in
+    let a = m .before .before .args in
+    let others = digitsBy 32 (l .left) (l .rest) in
+    let more = digits-more 32 (lit≤ tt) (l .left) (l .rest) (e .before .before .loop-test .taken) in
     rw (c .after .ensures, k .before .on-record .ensures, k .kind-of .ensures)
-    (l .inv .0, ending-turn (a .o) (a .start) (a .t3) (l .held) (l .i) h (rw (e .before .is-end .ensures) at (e .if1 .left)) (now (a .out)) (l .out) _ (l .count) _ (l .inv .1) (rw (k .before .on-record .ensures, k .kind-of .ensures) at (p .put-code .ensures)))
+    (l .inv .0, ending-turn (a .o) (a .start) (unpacked (a .string)) (l .held) others (l .rest % 32) (digitsBy 32 (l .left - 1) (l .rest / 32)) more (rw (e .before .is-end .ensures) at (e .if1 .left)) (now (a .out)) (l .out) _ (l .count) _ (l .inv .1) (rw (k .before .on-record .ensures, k .kind-of .ensures) at (p .put-code .ensures)))
 
 same-length-2 : tie.Need-same-length-2 Inv-loop μ-loop
 same-length-2 c = search needs
@@ -102,11 +104,10 @@ same-length-2 c = search needs
 returns-2 : tie.Need-returns-2 Inv-loop μ-loop
 returns-2 c =
     let l = c .before .loop in
-    let b = c .before .before .before in
-    let a = b .args in
-    let n : length (a .t3) ≡ 8 = b .good .1 .1 .0 .1 .0 .1 in
-    let h : length (a .t3) ≤ l .i = omega (arith, n, c .loop-test .left) in
-    ending-over (a .o) (a .start) (a .t3) (l .held) (l .i) (now (a .out)) (l .out) (l .count) (l .inv .1) (at-end (a .o) (a .start) (a .t3) (l .held) (l .i) h)
+    let a = c .before .before .before .args in
+    let others = digitsBy 32 (l .left) (l .rest) in
+    let over = at-end (a .o) (a .start) (unpacked (a .string)) (l .held) others (digits-none 32 (lit≤ tt) (l .left) (l .rest) (c .loop-test .left)) in
+    ending-over (a .o) (a .start) (unpacked (a .string)) (l .held) others (now (a .out)) (l .out) (l .count) (l .inv .1) over
 
 pub put-ending-spec : {M : Type 1} → statement M
 put-ending-spec =
@@ -115,7 +116,7 @@ put-ending-spec =
     Inv-loop
     μ-loop
     loop-holds
-    array-read-c
+    cast-c
     is-end-requires
     same-length
     returns
@@ -127,7 +128,7 @@ put-ending-spec =
     put-code-requires
     after-requires
     add-count
-    add-i
+    sub-left
     loop-less
     loop-again
     same-length-2

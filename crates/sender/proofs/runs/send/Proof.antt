@@ -75,7 +75,7 @@ returns-2 c =
     let l = m .loop in
     let a = m .before .before .before .before .args in
     rw (c .sent2 .ensures)
-    (no-room (a .o) (a .start) (a .first) (a .until) (now (a .bytes)) (now (a .out)) (l .sender) (l .asks) (l .taken) (l .out) (l .count) (l .inv) (t .loop-test .taken) (rw (h .stops .ensures) at (g .if1 .left)) (rw (r .has-room .ensures .0) at (not-true (r .has-room .result) (f .if2 .taken))))
+    (no-room (a .o) (a .start) (a .first) (a .until) (now (a .bytes)) (now (a .out)) (l .sender) (l .asks) (l .taken) (l .out) (l .count) (l .inv) (t .loop-test .taken) (rw (h .stops .ensures) at (g .if1 .left)) (rw (r .has-room .ensures) at (not-true (r .has-room .result) (f .if2 .taken))))
 
 slice-aggregate-convert-as : tie.Need-slice-aggregate-convert-as Inv-loop μ-loop
 slice-aggregate-convert-as c = search needs
@@ -101,8 +101,8 @@ put-asked-requires c κs =
     let l = m .loop in
     let a = m .before .before .before .before .args in
     let x = converted (a .o) (l .asks) (getD (now (a .bytes)) (l .taken) 0) in
-    let room : most ≤ length (l .out) - l .count = leb-true _ _ (rw (r .has-room .ensures .0) at (not-false (r .has-room .result) (f .if2 .left))) in
-    rw (free-length (l .out) (l .count), v .convert-as .ensures) (omega (arith, room, byte-most (a .o) (r .has-room .ensures .1) (l .sender) x))
+    let room : most ≤ length (l .out) - l .count = leb-true _ _ (rw (r .has-room .ensures) at (not-false (r .has-room .result) (f .if2 .left))) in
+    rw (free-length (l .out) (l .count), v .convert-as .ensures) (omega (arith, room, byte-most (a .o) (l .sender) x))
 
 next-asks-requires : tie.Need-next-asks-requires Inv-loop μ-loop
 next-asks-requires c κs = search needs
@@ -134,7 +134,7 @@ loop-again c =
     let l = m .loop in
     let a = m .before .before .before .before .args in
     rw (c .before .before .next-asks .ensures)
-    (sends-on (a .o) (a .start) (a .first) (a .until) (now (a .bytes)) (now (a .out)) (l .sender) (l .asks) (l .taken) (l .out) (l .count) (l .inv) (t .loop-test .taken) (rw (h .stops .ensures) at (g .if1 .left)) (rw (f .before .has-room .ensures .0) at (not-false (f .before .has-room .result) (f .if2 .left))) _ (p .put-asked .result) (rw (v .convert-as .ensures) at (p .put-asked .ensures)))
+    (sends-on (a .o) (a .start) (a .first) (a .until) (now (a .bytes)) (now (a .out)) (l .sender) (l .asks) (l .taken) (l .out) (l .count) (l .inv) (t .loop-test .taken) (rw (h .stops .ensures) at (g .if1 .left)) (rw (f .before .has-room .ensures) at (not-false (f .before .has-room .result) (f .if2 .left))) _ (p .put-asked .result) (rw (v .convert-as .ensures) at (p .put-asked .ensures)))
 
 sent-requires-3 : tie.Need-sent-requires-3 Inv-loop μ-loop
 sent-requires-3 c κs = search needs

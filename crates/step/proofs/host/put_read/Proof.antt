@@ -28,9 +28,7 @@ slice-aggregate-put-text : tie.Need-slice-aggregate-put-text
 slice-aggregate-put-text c = search needs
 
 put-text-requires : tie.Need-put-text-requires
-put-text-requires c κs =
-    let d = c .before .before .before .before .before in
-    (search needs, rw (d .with-reader .ensures) (d .before .before .before .before .before .before .pre))
+put-text-requires c κs = search needs
 
 in-first-requires-2 : tie.Need-in-first-requires-2
 in-first-requires-2 c κs = search needs
@@ -42,9 +40,7 @@ slice-aggregate-put-text-2 : tie.Need-slice-aggregate-put-text-2
 slice-aggregate-put-text-2 c = search needs
 
 put-text-requires-2 : tie.Need-put-text-requires-2
-put-text-requires-2 c κs =
-    let d = c .before .before .before .before .before in
-    (search needs, rw (d .with-reader .ensures) (d .before .before .before .before .before .before .pre))
+put-text-requires-2 c κs = search needs
 
 in-first-requires-3 : tie.Need-in-first-requires-3
 in-first-requires-3 c κs = search needs

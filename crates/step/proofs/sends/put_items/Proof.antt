@@ -3,7 +3,6 @@
 use native.Mathlib.Omega.{arith}
 use denote.Ref.{now}
 use mathlib.Core.Path.{refl}
-use Rattle.settings.proofs.Held.{eight-codes}
 use Rattle.step.proofs.Sent.{text-put}
 use borrow.Author.Needs.{needs}
 use Rattle.step.proofs.sends.put_items.Statement.{statement}
@@ -31,7 +30,7 @@ returns c =
     let x = w .before .before .before in
     let b = x .before .before .before .before .before .before in
     let a = b .args in
-    text-put (a .s) _ _ (x .send .result) refl (now (a .out)) _ _ (eight-codes (a .s .settings) (b .pre .1 .settings)) (now (a .bytes)) (b .pre .0) (x .send .ensures) (rw (w .with-sender .ensures) at (p .put-codes .ensures))
+    text-put (a .s) _ _ (x .send .result) refl (now (a .out)) _ _ (now (a .bytes)) (b .pre) (x .send .ensures) (rw (w .with-sender .ensures) at (p .put-codes .ensures))
 
 pub put-items-spec : {M : Type 1} → statement M
 put-items-spec =
