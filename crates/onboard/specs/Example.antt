@@ -7,10 +7,10 @@ use Rattle.demands.specs.Traces.{mode1}
 use Rattle.onboard.specs.Names.{Host, Tu}
 use Rattle.onboard.specs.OneCall.{Wire}
 
--- the state's bytes with factory settings and nothing held: a mode, port and speed, and the case on record
+-- the state's bytes with factory settings (string 90 is 33,523,976) and nothing held: a mode, port and speed, and the case on record
 abbrev bytes : ℕ → ℕ → ℕ → ℕ → List ℕ
 bytes mode port speed case =
-    0 ∷ 72 ∷ 0 ∷ 0 ∷ 0 ∷ 0 ∷ 8 ∷ 8 ∷ 2 ∷ 31 ∷ 31 ∷ 0 ∷ 0 ∷ 0 ∷ mode ∷ port ∷ speed ∷ case ∷ 0 ∷ 0 ∷ 0 ∷ 1 ∷ 1 ∷ replicate 105 0
+    0 ∷ 72 ∷ 0 ∷ 0 ∷ 0 ∷ 0 ∷ 8 ∷ 137 ∷ 255 ∷ 1 ∷ 0 ∷ 0 ∷ 0 ∷ 0 ∷ mode ∷ port ∷ speed ∷ case ∷ 0 ∷ 0 ∷ 0 ∷ 1 ∷ 1 ∷ replicate 105 0
 
 -- CR LF `-.TC,1,2,1,60` CR LF
 abbrev connected : List ℕ

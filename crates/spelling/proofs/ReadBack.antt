@@ -1,22 +1,25 @@
 -- Spelling a state and reading it back gives the state, and each state has one spelling.
 -- Assumes nothing.
-use Prim.Native.Nat.{ℕ, zero, suc}
+use Prim.Native.Nat.{ℕ, zero, suc, _<_}
 use mathlib.Core.Path.{_≡_, refl, ap, _∙_}
 use mathlib.Core.Bool.{Bool, true, false}
 use mathlib.Core.List.{List, [], _∷_}
+use native.Mathlib.Omega.{arith}
+use borrow.Author.Tests.{ltb-true}
 use lib.Dec.{eqb}
 use lib.ListN.{length, getD}
 use Rattle.settings.specs.Table.{options}
-use Rattle.settings.specs.Options.{endingCodes}
-use Rattle.settings.proofs.Held.{length-in, values-in, eight-codes}
+use Rattle.word.specs.Word.{numberBy, isWord}
+use Rattle.word.proofs.Words.{bytes-back}
+use Rattle.settings.proofs.Held.{length-in, values-in, string-word}
 use Rattle.step.specs.State.{sound}
 use Rattle.step.proofs.Stays.{sound-parts}
 use Rattle.spelling.specs.Names.{Case, Letters, Figures, Verb, Write, Read, Other, Form, Empty, Digits, Ex, Stage, Text, Swallow, Held, Begun, Lettered, Typed, Fields, Discard, Known, Is, Column, At, Last, Shift, State}
 use Rattle.spelling.specs.Names.known
 use Rattle.spelling.specs.Names.column
 use Rattle.spelling.specs.Names.last
-use Rattle.spelling.specs.Spelling.{bit, caseByte, knownByte, lastByte, verbByte, formByte, columnBytes, stageBytes, spelt, caseOf, knownOf, lastOf, verbOf, formOf, columnOf, stageOf, stateOf, spells, part}
-use Rattle.spelling.proofs.Parts.{two, four, laid}
+use Rattle.spelling.specs.Spelling.{bit, caseByte, knownByte, lastByte, verbByte, formByte, stringBytes, columnBytes, stageBytes, spelt, caseOf, knownOf, lastOf, verbOf, formOf, columnOf, stageOf, stateOf, spells, part}
+use Rattle.spelling.proofs.Parts.{eight, two, four, laid}
 use Rattle.laws.proofs.Same.{same-self}
 use Rattle.spelling.proofs.Same.{its-spelling}
 
@@ -74,10 +77,10 @@ whole (x ∷ xs) = rw (tail x xs 0 (length xs), whole xs)
 all : (xs : List ℕ) (n : ℕ) → length xs ≡ n → part xs 0 n ≡ xs
 all xs n e = rw e at (whole xs)
 
--- what the types say of the arrays' lengths is enough
+-- what the types say is enough: the arrays' lengths, and a word of 64 bits
 pub record Formed (s : State) : Type 0 where
   pub seven : length (s .settings .values) ≡ 7
-  pub eight : length (s .settings .string) ≡ 8
+  pub word : s .settings .string < 18446744073709551616
   pub eleven : length (s .reader .values) ≡ 11
 
 state-back : (s : State) → Formed s → stateOf (spelt s) ≡ s
@@ -85,22 +88,24 @@ unfolding stateOf spelt
 state-back s h =
     let l = s .sender .held .column in
     let g = s .reader .stage in
-    go _ _ (two l) (four g) (column-back l) (stage-back g) (all _ 7 (h .seven)) (all _ 8 (h .eight)) (all _ 11 (h .eleven))
+    go (stringBytes (s .settings)) _ _ (eight (s .settings)) (two l) (four g) (bytes-back (s .settings .string) (h .word)) (column-back l) (stage-back g) (all _ 7 (h .seven)) (all _ 11 (h .eleven))
   where
-    go : (y z : List ℕ) → part y 0 2 ≡ y → part z 0 4 ≡ z → columnOf (getD y 0 0) (getD y 1 0) ≡ s .sender .held .column → stageOf (getD z 0 0) (getD z 1 0) (getD z 2 0) (getD z 3 0) ≡ s .reader .stage → part (s .settings .values) 0 7 ≡ s .settings .values → part (s .settings .string) 0 8 ≡ s .settings .string → part (s .reader .values) 0 11 ≡ s .reader .values → stateOf (laid s y z) ≡ s
-    go y z f g q r u v w = rw (← f, ← g) (simp (q, r, u, v, w, known-back, last-back, case-back))
+    go : (x y z : List ℕ) → part x 0 8 ≡ x → part y 0 2 ≡ y → part z 0 4 ≡ z → numberBy 256 (part x 0 8) ≡ s .settings .string → columnOf (getD y 0 0) (getD y 1 0) ≡ s .sender .held .column → stageOf (getD z 0 0) (getD z 1 0) (getD z 2 0) (getD z 3 0) ≡ s .reader .stage → part (s .settings .values) 0 7 ≡ s .settings .values → part (s .reader .values) 0 11 ≡ s .reader .values → stateOf (laid s x y z) ≡ s
+    go x y z e f g n q r u w = rw (← e, ← f, ← g) (simp (n, q, r, u, w, known-back, last-back, case-back))
 
 -- a state of the box's form, spelt and read back
 pub read-back : (s : State) → Formed s → (spells (spelt s) ≡ true) × (stateOf (spelt s) ≡ s)
 unfolding spells
 read-back s f = (rw (state-back s f) (same-self (spelt s)), state-back s f)
 
+word-fits : (n : ℕ) → isWord n ≡ true → n < 18446744073709551616
+word-fits n h = omega (arith, ltb-true n 1099511627776 h)
+
 -- a sound state is of that form
 pub sound-formed : (s : State) → sound s ≡ true → Formed s
-unfolding endingCodes
 sound-formed s h =
     let p = sound-parts s h in
-    record { seven = length-in options (s .settings .values) (values-in (s .settings) (p .held .settings)); eight = eight-codes (s .settings) (p .held .settings); eleven = p .eleven }
+    record { seven = length-in options (s .settings .values) (values-in (s .settings) (p .held .settings)); word = word-fits (s .settings .string) (string-word (s .settings) (p .held .settings)); eleven = p .eleven }
 
 -- so no such state's spelling is refused
 pub none-refused : (b : List ℕ) (s : State) → Formed s → b ≡ spelt s → spells b ≡ true

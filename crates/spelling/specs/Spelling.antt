@@ -5,6 +5,7 @@ use mathlib.Core.List.{List, [], _∷_, _++_}
 use lib.Dec.{eqb}
 use lib.ListN.{getD, set, replicate}
 use Rattle.laws.specs.Same.{same}
+use Rattle.word.specs.Word.{numberBy, bytesOf}
 use Rattle.spelling.specs.Names.{Case, Letters, Figures, Verb, Write, Read, Other, Form, Empty, Digits, Ex, Stage, Text, Swallow, Held, Begun, Lettered, Typed, Fields, Discard, Reader, Settings, Connection, Known, Is, Column, At, Last, Shift, Sender, State}
 use Rattle.spelling.specs.Names.known
 use Rattle.spelling.specs.Names.column
@@ -52,9 +53,9 @@ abbrev pub setsAt : List ℕ → List ℕ → ℕ → List ℕ → List ℕ
 setsAt b [] i vs = b
 setsAt b (o ∷ os) i vs = setsAt (set b o (getD vs i 0)) os (suc i) vs
 
--- 6 to 13: string 90
+-- 6 to 13: string 90's number, lowest byte first
 abbrev pub stringBytes : Settings → List ℕ
-stringBytes o = part (o .string) 0 8
+stringBytes o = bytesOf (o .string)
 
 -- 14 to 16: the connection's mode, port and speed
 abbrev pub connectionBytes : Connection → List ℕ
@@ -121,9 +122,9 @@ abbrev pub pick : List ℕ → List ℕ → List ℕ
 pick b [] = []
 pick b (o ∷ os) = getD b o 0 ∷ pick b os
 
--- the options by their offsets, string 90 from 6 on
+-- the options by their offsets, string 90's number from 6 on
 abbrev pub settingsOf : List ℕ → Settings
-settingsOf b = record { values = pick b offsets; string = part b 6 8 }
+settingsOf b = record { values = pick b offsets; string = numberBy 256 (part b 6 8) }
 
 -- mode, port and speed
 abbrev pub connectionOf : List ℕ → Connection

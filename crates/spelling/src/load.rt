@@ -4,6 +4,7 @@ ghost use lib.ListN.{length};
 ghost use Rattle.laws.specs.Same.{same};
 ghost use Rattle.spelling.specs.Spelling.{caseOf, columnOf, connectionOf, formOf, knownOf, lastOf, part, plainStage, readerOf, senderOf, settingsOf, spelt, stageOf, stateOf, verbOf};
 use crate::save::save;
+use crate::words::word_at;
 use code::Case;
 use command::Form;
 use command::Reader;
@@ -105,13 +106,13 @@ fn stage_of(n: u8, x: u8, y: u8, z: u8) -> Stage
     }
 }
 
-// The settings: each option from its offset, and string 90 from offset 6 on.
+// The settings: each option from its offset, and string 90's word from offset 6 on.
 fn settings_of(b: &[u8; 128]) -> Settings
     ensures { λ r. ⌜ r ≡ settingsOf (now (b .entry)) ⌝ }
 {
     Settings {
         values: [b[0], b[1], b[2], b[3], b[4], b[5], b[41]],
-        string: [b[6], b[7], b[8], b[9], b[10], b[11], b[12], b[13]],
+        string: word_at(b, 6),
     }
 }
 
@@ -172,13 +173,14 @@ fn reader_of(b: &[u8; 128]) -> Reader
 pub fn state_of(b: &[u8; 128]) -> State
     ensures { λ r. ⌜ r ≡ stateOf (now (b .entry)) ⌝ }
 {
+    let reader = reader_of(b);
     State {
         settings: settings_of(b),
         connection: connection_of(b),
         sender: sender_of(b),
         reading: case_of(b[21]),
         incoming: case_of(b[22]),
-        reader: reader_of(b),
+        reader,
     }
 }
 

@@ -2,6 +2,7 @@
 ghost use mathlib.Core.Path.{_≡_};
 ghost use mathlib.Core.List.{[], _∷_};
 ghost use Rattle.spelling.specs.Spelling.{caseByte, columnBytes, connectionBytes, formByte, knownByte, lastByte, part, offsets, puts, senderBytes, setsAt, spelt, stageBytes, stringBytes, verbByte};
+use crate::words::put_word;
 use code::Case;
 use command::Form;
 use command::Stage;
@@ -92,20 +93,12 @@ fn stage_bytes(s: Stage) -> [u8; 4]
     }
 }
 
-// The settings: string 90 from offset 6 on, and each option at its offset.
+// The settings: string 90's word from offset 6 on, and each option at its offset.
 fn put_settings(bytes: &mut [u8; 128], s: Settings)
     ensures { λ r. ⌜ now (bytes .exit) ≡ setsAt (puts (now (bytes .entry)) 6 (stringBytes s)) offsets 0 (s .values) ⌝ }
 {
     let values = s.values;
-    let string = s.string;
-    bytes[6] = string[0];
-    bytes[7] = string[1];
-    bytes[8] = string[2];
-    bytes[9] = string[3];
-    bytes[10] = string[4];
-    bytes[11] = string[5];
-    bytes[12] = string[6];
-    bytes[13] = string[7];
+    put_word(bytes, 6, s.string);
     bytes[0] = values[0];
     bytes[1] = values[1];
     bytes[2] = values[2];

@@ -5,6 +5,9 @@ use borrow.Author.Needs.{needs}
 use Rattle.spelling.proofs.load.state_of.Statement.{statement}
 use Rattle.spelling.proofs.load.state_of.Tie as tie
 
+reader-of-requires : tie.Need-reader-of-requires
+reader-of-requires c κs = search needs
+
 settings-of-requires : tie.Need-settings-of-requires
 settings-of-requires c κs = search needs
 
@@ -26,17 +29,18 @@ element-copy-out-case-of-2 c = search needs
 case-of-requires-2 : tie.Need-case-of-requires-2
 case-of-requires-2 c κs = search needs
 
-reader-of-requires : tie.Need-reader-of-requires
-reader-of-requires c κs = search needs
-
 returns : tie.Need-returns
 unfolding stateOf
-returns c = rw (c .before .before .before .before .before .before .before .settings-of .ensures, c .before .before .before .before .before .before .connection-of .ensures, c .before .before .before .before .before .sender-of .ensures, c .before .before .before .case-of .ensures, c .before .case-of2 .ensures, c .reader-of .ensures)
+returns c =
+    let x = c .before .before .before .before in
+    let k = x .before in
+    rw (k .before .before .reader-of .ensures, k .before .settings-of .ensures, k .connection-of .ensures, x .sender-of .ensures, c .before .before .case-of .ensures, c .case-of2 .ensures)
 
 pub state-of-spec : {M : Type 1} → statement M
 state-of-spec =
     tie.close
     (tie.spec
+    reader-of-requires
     settings-of-requires
     connection-of-requires
     sender-of-requires
@@ -44,5 +48,4 @@ state-of-spec =
     case-of-requires
     element-copy-out-case-of-2
     case-of-requires-2
-    reader-of-requires
     returns)
