@@ -31,7 +31,7 @@
  *   needed on every target:              memcpy memmove memset
  *   needed on armv7 and thumbv6m, SIZE:  __aeabi_uidiv __aeabi_uidivmod
  *
- * On Thumb (v7-M) the archive takes 10.4 kB of program memory if made for SIZE, and 14.0 kB for SPEED, and a call takes at most 1,700 bytes of
+ * On Thumb (v7-M) the archive takes 10.9 kB of program memory if made for SIZE, and 15.2 kB for SPEED, and a call takes at most 1,700 bytes of
  * stack beside those of the functions above (SPEED: 1,100). `benchmark/size` measures both.
  *
  * After a power cut, the board writes the connection again before any text: the printer may have moved, and only writing a connection
@@ -59,7 +59,7 @@ enum { LINEBOX_LINE_LEAST = 16, LINEBOX_HOST_LEAST = 36 };
  *   3         option 71, unshift on return                             0, 1
  *   4         option 72, filter                                        0, 1
  *   5         option 74, SI/SO reports                                 0, 1
- *   6 to 13   string 90, eight codes                                   by its rules
+ *   6 to 13   string 90 as one number, lowest byte first               its codes by their rules, the upper 24 bits 0
  *   14        connection's mode                                        1, 4, 10, 11
  *   15        port (0 in modes 10 and 11)                              1 to 4 (mode 1), 1 to 3 (mode 4)
  *   16        speed (0 in modes 10 and 11)                             60, 66, 75, 100
@@ -84,8 +84,16 @@ enum { LINEBOX_LINE_LEAST = 16, LINEBOX_HOST_LEAST = 36 };
  *   41        option 77, stand-in for text bytes without a code        0, or 33 to 126 with a code
  *   42 to 127                                                          0
  *
+ * String 90's number has eight codes of five bits, the first one lowest. A board reads code i (0 to 7) so:
+ *
+ *     uint64_t word = 0;
+ *     for (int k = 7; k >= 0; k--) word = word << 8 | state[LINEBOX_AT_STRING + k];
+ *     uint8_t code = word >> 5 * i & 31;
+ *
+ * A state kept from an older box is not to be used: it has a byte for each of the eight codes, which may now spell another string, or
+ * none by the rules. The board begins with linebox_fresh and writes its settings again.
+ *
  * Later requests have their homes in the bytes that are 0 here. They hold 0 until the request lands; any other value is answer 3.
- * So a state kept from an older box keeps working: its byte 41 is 0, and text bytes without a code are dropped as before.
  *
  *   38 to 40    ids 52, 53, 76
  *   42, 43      ids 78, 79

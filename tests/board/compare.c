@@ -226,6 +226,13 @@ static void string_90(uint8_t s[8]) {
   }
 }
 
+/* A state's bytes for it: one number, the first code in its lowest five bits, lowest byte first. */
+static void put_string(uint8_t *bytes, const uint8_t s[8]) {
+  memset(bytes, 0, 8);
+  for (int bit = 0; bit < 40; bit++)
+    if (s[bit / 5] >> bit % 5 & 1) bytes[bit / 8] |= (uint8_t)(1 << bit % 8);
+}
+
 static void broken_string(uint8_t s[8]) {
   string_90(s);
   if (percent(50)) s[below(8)] = (uint8_t)below(percent(80) ? 34 : 256);
@@ -367,7 +374,11 @@ static void random_state(uint8_t *s) {
   s[0] = (uint8_t)below(2);
   s[1] = (uint8_t)(percent(40) ? 10 : percent(50) ? between(10, 20) : between(10, 80));
   for (int i = 2; i <= 5; i++) s[i] = (uint8_t)below(2);
-  if (percent(60)) string_90(s + 6);
+  if (percent(60)) {
+    uint8_t codes[8];
+    string_90(codes);
+    put_string(s + 6, codes);
+  }
   unsigned mode = below(100);
   s[14] = mode < 50 ? 1 : mode < 85 ? 4 : mode < 92 ? 10 : 11;
   if (s[14] < 10) {
@@ -391,6 +402,10 @@ static void any_fields(uint8_t *s) {
 }
 
 static void damage(uint8_t *s) {
+  if (percent(20)) { /* one of the upper 24 bits of string 90's number, and nothing else */
+    s[between(11, 13)] |= (uint8_t)(1 << below(8));
+    return;
+  }
   for (unsigned n = between(1, 3); n > 0; n--) {
     unsigned at = percent(80) ? below(42) : below(LINEBOX_STATE);
     s[at] = (uint8_t)(percent(50) ? s[at] + 1 : percent(50) ? below(13) : below(256));

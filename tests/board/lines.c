@@ -588,9 +588,64 @@ static void run_typed(void) {
   check(done[1] == 3 && memcmp(first, "1 Q", 3) == 0, "and then one that is", "1 Q", shown(first, done[1]));
 }
 
+/* String 90's number in the state's bytes, as the header has it. */
+static uint64_t word(void) {
+  uint64_t number = 0;
+  for (int i = 7; i >= 0; i--) number = number << 8 | state[6 + i];
+  return number;
+}
+
+/* A code in a place of string 90, LFs and a CR before it or a CR after it: written, found in the state's number, and sent in an
+   ending; or refused, where it is no code or may not stand there. */
+static void run_place(int place, int code) {
+  char name[] = "string 90, place .: ...", command[] = STRING("...,...,...,...,...,...,...,...");
+  int good = code < 32 && (place > 0 || code == 2 || code == 8 || code == 27 || code == 31), cr = place == 0;
+  name[17] = (char)('0' + place);
+  three_digits(name + 20, code);
+  for (int i = 0; i < 8; i++) three_digits(command + 10 + 4 * i, i == place ? code : i == cr ? 8 : i < place ? 2 : 0);
+  start(MODE_1 LIMIT_10);
+  uint64_t before = word();
+  host(command);
+  if (!good) {
+    check(word() == before, name, "refused", "another");
+    return;
+  }
+  check(word() >> 40 == 0 && (word() >> 5 * place & 31) == (unsigned)code, name, "in its five bits", "another");
+  host(TEN "K");
+  check(first[12 + place] == code, name, "sent in its place", decimals(first, done[1]));
+}
+
+/* String 90 as one number: each code in each place; each upper bit; what an older box kept. */
+static void run_strings(void) {
+  static const uint8_t kept[8] = {72, 12, 82, 204, 249};
+  start(MODE_1 STRING("8,2,3,4,5,6,7,31"));
+  check(memcmp(state + 6, kept, 8) == 0, "8 2 3 4 5 6 7 31 as bytes", "72 12 82 204 249 0 0 0", decimals(state + 6, 8));
+  for (int place = 0; place < 8; place++)
+    for (int code = 1; code < 34; code++) run_place(place, code);
+  start(MODE_1);
+  for (int bit = 40; bit < 64; bit++) {
+    uint8_t *byte = state + 6 + bit / 8, flag = (uint8_t)(1 << bit % 8);
+    *byte = flag;
+    uint32_t answer = linebox_host(state, (const uint8_t *)"A", 1, first, ROOM, second, ROOM, done);
+    check(answer == 3 && done[0] == 0 && *byte == flag, "an upper bit, host call", "3: 0 0 0", "another");
+    answer = linebox_line(state, NULL, 0, NULL, 0, NULL, 0, done);
+    check(answer == 3 && *byte == flag, "an upper bit, line call", "3: 0 0 0", "another");
+    answer = linebox_tu(state, NULL, 0, NULL, 0, done);
+    check(answer == 3 && *byte == flag, "an upper bit, TU call", "3: 0 0", "another");
+    *byte = 0;
+  }
+  /* an older box kept a byte a code: its factory string is now none by the rules, its 8,2 another one */
+  memcpy(state + 6, (const uint8_t[]){8, 8, 2, 31, 31, 0, 0, 0}, 8);
+  check(linebox_host(state, NULL, 0, NULL, 0, NULL, 0, done) == 3, "an older box's factory string", "3", "another");
+  memcpy(state + 6, (const uint8_t[]){8, 2, 0, 0, 0, 0, 0, 0}, 8);
+  host("/.TR,90,0\r");
+  check(strcmp(shown(second, done[2]), "\\r\\n-.TC,90,8,8,16,0,0,0,0,0,0\\r\\n") == 0, "an older box's 8,2", "8,16",
+        shown(second, done[2]));
+}
+
 /* A fresh box byte by byte, and line codes to the TU in mode 4. */
 static void run_fresh(void) {
-  static const uint8_t expected[LINEBOX_STATE] = {[1] = 72, [6] = 8, 8, 2, 31, 31, [14] = 11, [21] = 1, 1};
+  static const uint8_t expected[LINEBOX_STATE] = {[1] = 72, [6] = 8, 137, 255, 1, [14] = 11, [21] = 1, 1};
   memset(state, 255, LINEBOX_STATE);
   uint32_t answer = linebox_fresh(state);
   check(answer == 0 && memcmp(state, expected, LINEBOX_STATE) == 0, "a fresh box", "by the published offsets",
@@ -616,6 +671,7 @@ int main(void) {
   run_baudot_table();
   run_answers();
   run_typed();
+  run_strings();
   run_fresh();
   printf("lines: %u passed, %u failed\n", passed, failed);
   return failed != 0;

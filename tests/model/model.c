@@ -16,7 +16,8 @@ enum { UNKNOWN, LETTERS, FIGURES };                /* a case; as the last item: 
 enum { FIGS = 27, LTRS = 31 };
 enum { MOST = 40 }; /* one byte never makes more than this many codes or host bytes */
 
-/* The state, in the order of its published offsets 0 to 41; offsets 42 to 127 hold 0. */
+/* The state, in the order of its published offsets 0 to 41; offsets 42 to 127 hold 0. String 90 has its eight codes here, and is one
+   number in the 128 bytes (`unpack`, `pack`). */
 enum { FIELDS = 11 };
 struct box {
   uint8_t endings, limit, on_space, on_return, filter, report, string[8]; /* 49, 50, 70, 71, 72, 74, 90 */
@@ -336,6 +337,7 @@ static uint8_t *obey(struct box *box, uint8_t *out) {
   if (!in_range(id, field + 2)) {
     SEEN(ERROR_5);
     if (id == 77) SEEN(STAND_IN_REFUSED);
+    if (id == 90) SEEN(STRING_REFUSED);
     return error(out, id, 5);
   }
   return write_command(box, out, id, (uint8_t)count, field + 2);
@@ -461,11 +463,23 @@ static int is_connection(const struct box *box) {
   return (box->mode == 1 || box->mode == 4) && in_range(box->mode, &box->port);
 }
 
-/* Whether 128 bytes spell a sound state, and which. */
-static int load(struct box *box, const uint8_t state[MODEL_STATE]) {
-  memcpy(box, state, sizeof *box);
-  for (uint64_t i = sizeof *box; i < MODEL_STATE; i++)
-    if (state[i] != 0) return 0;
+/* A string's eight codes, five bits each, of a number that has the first code lowest and stands in bytes, lowest first. Whether the
+   number's upper 24 bits are zero. */
+static int unpack(uint8_t codes[8], const uint8_t bytes[8]) {
+  uint64_t number = 0;
+  for (int i = 7; i >= 0; i--) number = number << 8 | bytes[i];
+  for (int i = 0; i < 8; i++) codes[i] = number >> 5 * i & 31;
+  return number >> 40 == 0;
+}
+
+static void pack(uint8_t bytes[8], const uint8_t codes[8]) {
+  uint64_t number = 0;
+  for (int i = 0; i < 8; i++) number |= (uint64_t)codes[i] << 5 * i;
+  for (int i = 0; i < 8; i++) bytes[i] = (uint8_t)(number >> 8 * i);
+}
+
+/* Whether all settings but the string's upper bits, which the struct has not, are sound, and the record and the reader. */
+static int is_sound(const struct box *box) {
   if (box->unused[0] != 0 || box->unused[1] != 0 || box->unused[2] != 0 || !is_stand_in(box->stand_in)) return 0;
   return box->endings <= 1 && box->limit >= 10 && box->limit <= 80 && box->on_space <= 1 && box->on_return <= 1 &&
          box->filter <= 1 && box->report <= 1 && is_string(box->string) && is_connection(box) && box->printer <= 2 &&
@@ -473,11 +487,28 @@ static int load(struct box *box, const uint8_t state[MODEL_STATE]) {
          box->reading <= 2 && box->incoming >= 1 && box->incoming <= 2 && is_reader(box);
 }
 
+/* Whether 128 bytes spell a sound state, and which. */
+static int load(struct box *box, const uint8_t state[MODEL_STATE]) {
+  memcpy(box, state, sizeof *box);
+  int upper_zero = unpack(box->string, state + offsetof(struct box, string));
+  for (uint64_t i = sizeof *box; i < MODEL_STATE; i++)
+    if (state[i] != 0) return 0;
+  if (!is_sound(box)) return 0;
+  if (!upper_zero) SEEN(UPPER_BITS);
+  return upper_zero;
+}
+
+static void save(uint8_t state[MODEL_STATE], const struct box *box) {
+  memcpy(state, box, sizeof *box);
+  pack(state + offsetof(struct box, string), box->string);
+}
+
 /* ---- The calls ---- */
 
 uint32_t model_fresh(uint8_t state[MODEL_STATE]) {
   memset(state, 0, MODEL_STATE);
   memcpy(state, factory, sizeof factory);
+  pack(state + offsetof(struct box, string), factory + offsetof(struct box, string));
   state[offsetof(struct box, mode)] = 11;
   state[offsetof(struct box, reading)] = state[offsetof(struct box, incoming)] = LETTERS;
   return 0;
@@ -518,7 +549,7 @@ uint32_t model_host(uint8_t state[MODEL_STATE], const uint8_t *in, uint64_t in_l
     }
   }
   if (taken > 0 && box.stage != FIELD) clear_fields(&box);
-  memcpy(state, &box, sizeof box);
+  save(state, &box);
   done[0] = taken;
   done[1] = lines;
   done[2] = hosts;
@@ -563,7 +594,7 @@ uint32_t model_line(uint8_t state[MODEL_STATE], const uint8_t *codes, uint64_t c
       box.reading = LETTERS;
     }
   }
-  memcpy(state, &box, sizeof box);
+  save(state, &box);
   done[0] = taken;
   done[1] = hosts;
   done[2] = tus;
@@ -603,7 +634,7 @@ uint32_t model_tu(uint8_t state[MODEL_STATE], const uint8_t *codes, uint64_t cod
     copy(line, lines, out, n);
     lines += n;
   }
-  memcpy(state, &box, sizeof box);
+  save(state, &box);
   done[0] = taken;
   done[1] = lines;
   return answer;

@@ -43,6 +43,8 @@ uint32_t model_find(const uint8_t *bytes, uint64_t len, uint64_t at[2]);
   EVENT(ERROR_4, "error 4")                                                                                             \
   EVENT(ERROR_5, "error 5")                                                                                             \
   EVENT(STAND_IN_REFUSED, "error 5 for a stand-in")                                                                     \
+  EVENT(STRING_REFUSED, "error 5 for string 90")                                                                        \
+  EVENT(UPPER_BITS, "states refused for the upper bits of string 90 alone")                                             \
   EVENT(READ_DONE, "reads answered")                                                                                    \
   EVENT(SETTING_WRITTEN, "settings written")                                                                            \
   EVENT(STAND_IN_WRITTEN, "stand-ins written")                                                                          \
