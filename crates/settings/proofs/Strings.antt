@@ -1,16 +1,16 @@
 -- The rules of a string, asked of its word code by code: what is left of the word stands for the codes that are left.
 -- Assumes nothing.
 use Prim.Native.Nat.{ℕ, zero, suc, _/_, _%_, _^_, _<_}
-use mathlib.Core.Path.{_≡_, refl, sym, ap, subst, _∙_}
+use mathlib.Core.Path.{_≡_, refl, sym, ap, _∙_}
 use mathlib.Core.Bool.{Bool, true, false, _&&_, or-false, false≢true}
 use mathlib.Core.List.{List}
-use native.Mathlib.Nat.{pow-zero, pow-suc, mod-add-div, div-lt-iff-lt-mul, div-lt-self}
+use native.Mathlib.Nat.{pow-zero, mod-add-div, div-lt-self}
 use native.Mathlib.Omega.{arith}
 use borrow.Author.Tests.{eqb-true, eqb-false, eq-eqb, ne-eqb}
 use lib.Dec.{eqb, lit≤}
 use lib.ListN.{length}
 use Rattle.word.specs.Word.{digitsBy, unpacked, packed, isWord}
-use Rattle.word.proofs.Words.{digits-below, codes-packed, below}
+use Rattle.word.proofs.Words.{digits-below, fewer, codes-packed, below}
 use Rattle.settings.specs.Table.{allCodes, allZero, padded, early, opens, soundString}
 
 -- so many codes are left, and what is asked of all is asked of them
@@ -26,10 +26,6 @@ all-left f n h = record { k = 8; small = h; same = refl }
 none-left : (n : ℕ) → n < 32 ^ 0 → n ≡ 0
 none-left n h = omega (arith, h, pow-zero 32)
 
--- one code less
-fewer : (k n : ℕ) → n < 32 ^ suc k → n / 32 < 32 ^ k
-fewer k n h = div-lt-iff-lt-mul (lit≤ tt) .1 (subst (λ (m : ℕ). n < m) (pow-suc 32 k) h)
-
 -- a code that is not 0 is taken from a word that is not
 pub falls : (n : ℕ) → (n % 32 ≡ 0 → ⊥) → n / 32 < n
 falls n h = div-lt-self (go (eqb n 0) refl) (lit≤ tt)
@@ -42,7 +38,7 @@ falls n h = div-lt-self (go (eqb n 0) refl) (lit≤ tt)
 
 zeros : (k n : ℕ) → n < 32 ^ k → allZero (digitsBy 32 k n) ≡ eqb n 0
 zeros zero n h = rw (none-left n h)
-zeros (suc k) n h = rw (zeros k (n / 32) (fewer k n h)) (go (eqb (n % 32) 0) refl (eqb (n / 32) 0) refl)
+zeros (suc k) n h = rw (zeros k (n / 32) (fewer 32 (lit≤ tt) k n h)) (go (eqb (n % 32) 0) refl (eqb (n / 32) 0) refl)
   where
     go : (a : Bool) → eqb (n % 32) 0 ≡ a → (b : Bool) → eqb (n / 32) 0 ≡ b → a && b ≡ eqb n 0
     go true e true f = sym (eq-eqb n 0 (omega (arith, eqb-true (n % 32) 0 e, eqb-true (n / 32) 0 f, mod-add-div n 32)))
@@ -54,18 +50,14 @@ padded-on n rest l e = go (l .k) (l .small) (l .same)
   where
     go : (k : ℕ) → rest < 32 ^ k → padded (unpacked n) ≡ padded (digitsBy 32 k rest) → Left padded n (rest / 32)
     go zero h s = absurd (eqb-false (rest % 32) 0 e (rw (none-left rest h)))
-    go (suc k) h s = record { k = k; small = fewer k rest h; same = s ∙ rw e }
+    go (suc k) h s = record { k = k; small = fewer 32 (lit≤ tt) k rest h; same = s ∙ rw e }
 
 pub padded-end : (n rest : ℕ) → Left padded n rest → eqb (rest % 32) 0 ≡ true → eqb rest 0 ≡ padded (unpacked n)
 padded-end n rest l e = go (l .k) (l .small) (l .same)
   where
     go : (k : ℕ) → rest < 32 ^ k → padded (unpacked n) ≡ padded (digitsBy 32 k rest) → eqb rest 0 ≡ padded (unpacked n)
     go zero h s = sym (s ∙ sym (eq-eqb rest 0 (none-left rest h)))
-    go (suc k) h s = sym (s ∙ rw e (zeros k (rest / 32) (fewer k rest h)) ∙ quotient (eqb (rest / 32) 0) refl)
-      where
-        quotient : (b : Bool) → eqb (rest / 32) 0 ≡ b → b ≡ eqb rest 0
-        quotient true f = sym (eq-eqb rest 0 (omega (arith, eqb-true (rest % 32) 0 e, eqb-true (rest / 32) 0 f, mod-add-div rest 32)))
-        quotient false f = sym (ne-eqb rest 0 (λ z. eqb-false (rest / 32) 0 f (rw z)))
+    go (suc k) h s = sym (s ∙ rw e (rw e at (zeros (suc k) rest h)))
 
 -- An 8, and before the first only what may stand there.
 
@@ -81,7 +73,7 @@ opens-on n rest l e = go (l .k) (l .small) (l .same)
   where
     go : (k : ℕ) → rest < 32 ^ k → opens (unpacked n) ≡ opens (digitsBy 32 k rest) → Left opens n (rest / 32)
     go zero h s = absurd (false≢true (rw (none-left rest h) at e))
-    go (suc k) h s = record { k = k; small = fewer k rest h; same = s ∙ rw (early-other (rest % 32) e, e) }
+    go (suc k) h s = record { k = k; small = fewer 32 (lit≤ tt) k rest h; same = s ∙ rw (early-other (rest % 32) e, e) }
 
 pub opens-end : (n rest : ℕ) → Left opens n rest → early (rest % 32) ≡ false → eqb (rest % 32) 8 ≡ opens (unpacked n)
 opens-end n rest l e = go (l .k) (l .small) (l .same)

@@ -41,14 +41,14 @@ pub struct State {
     pub reader: Reader,
 }
 
-// One byte's output put into one buffer: whether all of it fits, the state after the byte, and how many places were written.
+// One byte's output put into one buffer: the state after the byte, how many places were written, and whether all of it fits.
 pub struct Took {
     pub state: State,
     pub count: usize,
     pub fits: bool,
 }
 
-// One byte's output put into both buffers: whether all of it fits, the state after the byte, and how many places were written.
+// One byte's output put into both buffers: the state after the byte, how many places were written, and whether all of it fits.
 pub struct Taken {
     pub state: State,
     pub first: usize,

@@ -42,11 +42,14 @@ module _ (base : ℕ) (some : 0 < base) where
       let n = numberBy base ds in
       rw (add-mul-mod-self-left d base n, mod-eq-of-lt l, add-mul-div-left d n some, div-eq-of-lt l, zero-add n, digits-number ds (b .1))
 
+  -- without its lowest digit a number has one fewer
+  pub fewer : (k n : ℕ) → n < base ^ suc k → n / base < base ^ k
+  fewer k n h = div-lt-iff-lt-mul some .1 (subst (λ (m : ℕ). n < m) (pow-suc base k) h)
+
   -- a number that has no further digit, taken apart and made again
   pub number-digits : (k n : ℕ) → n < base ^ k → numberBy base (digitsBy base k n) ≡ n
   number-digits zero n h = omega (arith, h, pow-zero base)
-  number-digits (suc k) n h =
-      rw (number-digits k (n / base) (div-lt-iff-lt-mul some .1 (subst (λ (m : ℕ). n < m) (pow-suc base k) h))) (mod-add-div n base)
+  number-digits (suc k) n h = rw (number-digits k (n / base) (fewer k n h)) (mod-add-div n base)
 
   -- so many digits make no greater number
   pub number-below : (ds : List ℕ) → allBelow base ds ≡ true → numberBy base ds < base ^ length ds
