@@ -5,12 +5,14 @@ use Prim.Native.Nat.{ℕ}
 use mathlib.Core.Path.{_≡_, refl, ap}
 use mathlib.Core.Bool.{Bool, true, false, _&&_, and-false}
 use mathlib.Core.List.{List, [], _∷_}
-use lib.Dec.{eqb}
+use native.Mathlib.Omega.{arith}
+use borrow.Author.Tests.{leb-true, leb-false, lt-ltb, le-ltb}
+use lib.Dec.{eqb, leb, ltb}
 use lib.ListN.{length, getD, take, set}
 use Rattle.word.specs.Word.{unpacked, packed, isWord}
 use Rattle.word.proofs.Words.{codes-packed, packed-codes}
 use Rattle.settings.specs.Names.{Settings, Connection, Home, Version, Linked, Unlinked, Value, String, Factory, Nowhere}
-use Rattle.settings.specs.Table.{allCodes, soundString, inRange, options, optionPlace, factoryValues, factory, allIn, isStandIn, soundStandIn, soundSettings}
+use Rattle.settings.specs.Table.{allCodes, padded, opens, soundString, inRange, options, optionPlace, factoryValues, factory, allIn, isStandIn, soundStandIn, soundSettings}
 use Rattle.settings.specs.Options.{endingCodes}
 use Rattle.settings.specs.Command.{store, valuesAt}
 use Rattle.settings.proofs.Written.{string-back}
@@ -26,9 +28,18 @@ pub record Before : Type 0 where
 abbrev pub factoryBefore : Before
 factoryBefore = record { values = factoryValues options; string = 8 ∷ 8 ∷ 2 ∷ 31 ∷ 31 ∷ 0 ∷ 0 ∷ 0 ∷ [] }
 
+-- codes are 0 to 31
+abbrev pub allCodesBefore : List ℕ → Bool
+allCodesBefore [] = true
+allCodesBefore (c ∷ cs) = leb c 31 && allCodesBefore cs
+
+-- the rules of string 90
+abbrev pub stringBefore : List ℕ → Bool
+stringBefore cs = allCodesBefore cs && (padded cs && opens cs)
+
 -- and string 90 with its eight codes, by its rules
 abbrev pub soundBefore : Before → Bool
-soundBefore s = allIn options (s .values) && (isStandIn (getD (s .values) (optionPlace options 77) 0) && (eqb (length (s .string)) 8 && soundString (s .string)))
+soundBefore s = allIn options (s .values) && (isStandIn (getD (s .values) (optionPlace options 77) 0) && (eqb (length (s .string)) 8 && stringBefore (s .string)))
 
 -- the settings that a write stores
 abbrev pub storeBefore : Before → Home → List ℕ → Before
@@ -73,10 +84,23 @@ now-before s h = ap (λ (n : ℕ). record { values = s .values; string = n }) (p
 pub factory-as-before : asBefore factory ≡ factoryBefore
 factory-as-before = refl
 
+-- what is a code, and which strings obey the rules
+pub codes-as-before : (cs : List ℕ) → allCodes cs ≡ allCodesBefore cs
+codes-as-before [] = refl
+codes-as-before (c ∷ cs) = rw (codes-as-before cs) (ap (λ (b : Bool). b && allCodesBefore cs) (go (leb c 31) refl))
+  where
+    go : (b : Bool) → leb c 31 ≡ b → ltb c 32 ≡ b
+    go true e = lt-ltb c 32 (omega (arith, leb-true c 31 e))
+    go false e = le-ltb c 32 (omega (arith, leb-false c 31 e))
+
+pub string-as-before : (cs : List ℕ) → soundString cs ≡ stringBefore cs
+unfolding soundString
+string-as-before cs = rw (codes-as-before cs)
+
 -- what is sound; and with an upper bit set nothing is
 pub sound-as-before : (s : Settings) → isWord (s .string) ≡ true → soundSettings s ≡ soundBefore (asBefore s)
 unfolding soundSettings soundStandIn
-sound-as-before s h = rw h
+sound-as-before s h = rw (h, string-as-before (unpacked (s .string)))
 
 pub upper-unsound : (s : Settings) → isWord (s .string) ≡ false → soundSettings s ≡ false
 unfolding soundSettings
