@@ -145,7 +145,7 @@ plain-codes : (s : State) → isPrinter (route (s .connection) Tu) ≡ true → 
 plain-codes s m x Text b h e = absurd (false≢true h)
 plain-codes s m x (Codes case) b h e =
     let u = open-codes (route (s .connection) Tu) (coding s x (Codes case)) b m in
-    record { is-taken = e; state = rw u; first = rw u; second = refl }
+    record { is-taken = e; state = rw u; first = rw u; second = rw u }
 
 coding-sound : (s : State) (x : Sender) (a : Asks) → sound s ≡ true → sound (coding s x a) ≡ true
 coding-sound s x a ok =

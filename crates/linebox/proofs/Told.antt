@@ -6,7 +6,7 @@ use mathlib.Core.Bool.{cond}
 use mathlib.Core.List.{List}
 use lib.Dec.{eqb}
 use Rattle.linebox.specs.Names.{Answer, All, NoRoom, NoCode, Unsound, Called}
-use Rattle.linebox.specs.Call.{numberOf, Done, Told, told, Calls, CallsOne}
+use Rattle.linebox.specs.Call.{numberOf, Done, Told, told, Calls}
 
 -- the answer that has a number
 abbrev answerOf : ℕ → Answer
@@ -30,6 +30,3 @@ told-once r q e = sym (told-back r) ∙ ap calledBy e ∙ told-back q
 -- any two outcomes that a promise allows are equal: what is given, and each buffer
 pub calls-once : (d : Done) (old₁ old₂ now₁ now₂ then₁ then₂ : List ℕ) (r q : Called) → Calls d old₁ old₂ now₁ now₂ r → Calls d old₁ old₂ then₁ then₂ q → (r ≡ q) × ((now₁ ≡ then₁) × (now₂ ≡ then₂))
 calls-once d old₁ old₂ now₁ now₂ then₁ then₂ r q h k = (told-once r q (h .gives ∙ sym (k .gives)), (h .one ∙ sym (k .one), h .two ∙ sym (k .two)))
-
-pub calls-one-once : (d : Done) (old now then : List ℕ) (r q : Called) → CallsOne d old now r → CallsOne d old then q → (r ≡ q) × (now ≡ then)
-calls-one-once d old now then r q h k = (told-once r q (h .gives ∙ sym (k .gives)), h .one ∙ sym (k .one))

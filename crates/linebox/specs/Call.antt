@@ -95,8 +95,3 @@ pub record Calls (d : Done) (old₁ old₂ now₁ now₂ : List ℕ) (r : Called
   pub gives : told r ≡ called d
   pub one : now₁ ≡ fronted old₁ (d .first)
   pub two : now₂ ≡ fronted old₂ (d .second)
-
--- the same with one buffer
-pub record CallsOne (d : Done) (old now : List ℕ) (r : Called) : Type 0 where
-  pub gives : told r ≡ called d
-  pub one : now ≡ fronted old (d .first)

@@ -4,7 +4,7 @@ ghost use mathlib.Core.Bool.{true};
 ghost use lib.ListN.{length, drop};
 ghost use Rattle.linebox.specs.Names.{Host as Names·Host, Line as Names·Line, Tu as Names·Tu};
 ghost use Rattle.step.specs.State.{sound};
-ghost use Rattle.linebox.specs.Call.{taking, call, endedAt, Calls, CallsOne};
+ghost use Rattle.linebox.specs.Call.{taking, call, endedAt, Calls};
 use crate::Answer;
 use crate::Called;
 use crate::runs::take_codes;
@@ -96,36 +96,38 @@ pub fn take_line(start: State, codes: &[u8], host: &mut [u8], tu: &mut [u8]) -> 
 }
 
 // TU codes from a sound state, as many as have room: a run of codes, and the one that may not fit, again and again.
-pub fn take_tu(start: State, codes: &[u8], line: &mut [u8]) -> Called
+pub fn take_tu(start: State, codes: &[u8], line: &mut [u8], host: &mut [u8]) -> Called
     requires { ⌜ sound start ≡ true ⌝ }
     ensures { λ r. ⌜
-        CallsOne (taking Names·Tu start (now (codes .entry)) (length (now (line .entry))) 0) (now (line .entry)) (now (line .exit)) r
+        Calls (taking Names·Tu start (now (codes .entry)) (length (now (line .entry))) (length (now (host .entry)))) (now (line .entry)) (now (host .entry)) (now (line .exit)) (now (host .exit)) r
         ⌝ }
 {
     let mut state = start;
     let mut taken = 0;
     let mut one = 0;
+    let mut two = 0;
     while taken < codes.len() {
         let run = take_codes(state, &codes[taken..], &mut line[one..]);
         state = run.state;
         one += run.count;
         taken += run.taken;
         if codes.len() <= taken {
-            return ended(Answer::All, taken, one, 0, state);
+            return ended(Answer::All, taken, one, two, state);
         }
         let c = codes[taken];
         if 31 < c {
-            return ended(Answer::NoCode, taken, one, 0, state);
+            return ended(Answer::NoCode, taken, one, two, state);
         }
-        let x = put_tu(state, c, &mut line[one..]);
+        let x = put_tu(state, c, &mut line[one..], &mut host[two..]);
         if !x.fits {
-            return ended(Answer::NoRoom, taken, one, 0, state);
+            return ended(Answer::NoRoom, taken, one, two, state);
         }
         state = x.state;
-        one += x.count;
+        one += x.first;
+        two += x.second;
         taken += 1;
     }
-    ended(Answer::All, taken, one, 0, state)
+    ended(Answer::All, taken, one, two, state)
 }
 
 // What is left of the input from the first byte not taken on; nothing past its end.
@@ -165,14 +167,14 @@ pub fn line(s: State, codes: &[u8], from: usize, host: &mut [u8], tu: &mut [u8])
     }
 }
 
-// A TU call lends a line buffer. The codes are the part from the count taken so far.
-pub fn tu(s: State, codes: &[u8], from: usize, line: &mut [u8]) -> Called
+// A TU call lends a line and a host buffer. The codes are the part from the count taken so far.
+pub fn tu(s: State, codes: &[u8], from: usize, line: &mut [u8], host: &mut [u8]) -> Called
     ensures { λ r. ⌜
-        CallsOne (call Names·Tu s (drop from (now (codes .entry))) (length (now (line .entry))) 0) (now (line .entry)) (now (line .exit)) r
+        Calls (call Names·Tu s (drop from (now (codes .entry))) (length (now (line .entry))) (length (now (host .entry)))) (now (line .entry)) (now (host .entry)) (now (line .exit)) (now (host .exit)) r
         ⌝ }
 {
     if is_sound(s) {
-        take_tu(s, rest(codes, from), line)
+        take_tu(s, rest(codes, from), line, host)
     } else {
         ended(Answer::Unsound, 0, 0, 0, s)
     }

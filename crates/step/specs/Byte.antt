@@ -9,7 +9,7 @@ use Rattle.laws.specs.Written.{fronted}
 use Rattle.step.specs.Names.{State, Stream, Host, Line, Tu, Took, Taken}
 use Rattle.step.specs.Step.{Step}
 
--- A host call lends a line and a host buffer, a line call a host and a TU buffer, a TU call a line buffer.
+-- A host call and a TU call lend a line and a host buffer, a line call a host and a TU buffer.
 
 abbrev pub firstOf : Stream → Step → List ℕ
 firstOf Host x = x .line
@@ -19,7 +19,7 @@ firstOf Tu x = x .line
 abbrev pub secondOf : Stream → Step → List ℕ
 secondOf Host x = x .host
 secondOf Line x = x .tu
-secondOf Tu x = []
+secondOf Tu x = x .host
 
 -- the next byte's whole output fits both buffers
 abbrev pub fits : Stream → Step → ℕ → ℕ → Bool

@@ -51,4 +51,4 @@ mostFirst Tu = mostLine Tu
 abbrev pub mostSecond : Stream → ℕ
 mostSecond Host = mostHost Host
 mostSecond Line = mostTu Line
-mostSecond Tu = 0
+mostSecond Tu = mostHost Tu

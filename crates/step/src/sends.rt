@@ -3,14 +3,16 @@ ghost use mathlib.Core.Path.{_≡_};
 ghost use Prim.Native.Nat.{_≤_};
 ghost use lib.ListN.{length, take};
 ghost use Rattle.sender.specs.Item.{wantedText};
-ghost use Rattle.step.specs.Names.{Host as Names·Host};
+ghost use Rattle.step.specs.Names.{Host as Names·Host, Tu as Names·Tu};
 ghost use Rattle.step.specs.Route.{route};
 ghost use Rattle.step.specs.Step.{sends, text, carried, tuStep};
-ghost use Rattle.step.specs.Byte.{Puts};
+ghost use Rattle.step.specs.Byte.{Puts, Offers};
 use crate::Route;
 use crate::State;
 use crate::Stream;
+use crate::Taken;
 use crate::Took;
+use crate::puts::in_first;
 use crate::puts::no_room;
 use crate::puts::none;
 use crate::routes::route;
@@ -96,15 +98,18 @@ fn put_code(s: State, c: u8, out: &mut [u8]) -> Took
     put_codes(with_sender(next, after), codes, x.count, out)
 }
 
-// One TU code, with the part of the line buffer that is free: to the printer, where that is its route; otherwise it is dropped.
-pub fn put_tu(s: State, c: u8, line: &mut [u8]) -> Took
-    ensures { λ r. ⌜ Puts (tuStep s c .state) (tuStep s c .line) (now (line .entry)) (now (line .exit)) r ⌝ }
+// One TU code, with the parts of the line and host buffers that are free: to the printer, where that is its route; otherwise it is
+// dropped.
+pub fn put_tu(s: State, c: u8, line: &mut [u8], host: &mut [u8]) -> Taken
+    ensures { λ r. ⌜
+        Offers Names·Tu (tuStep s c) (now (line .entry)) (now (host .entry)) (now (line .exit)) (now (host .exit)) r
+        ⌝ }
 {
     let connection = s.connection;
     match route(connection, Stream::Tu) {
-        Route::Dropped => none(s),
-        Route::ToPrinter => put_code(s, c, line),
-        Route::ToHost => none(s),
-        Route::ToTu => none(s),
+        Route::Dropped => in_first(none(s)),
+        Route::ToPrinter => in_first(put_code(s, c, line)),
+        Route::ToHost => in_first(none(s)),
+        Route::ToTu => in_first(none(s)),
     }
 }

@@ -1,9 +1,11 @@
 -- `step::sends::put_tu` meets its contract: each route has its case of `tued`.
 -- Assumes nothing.
-use mathlib.Core.Path.{sym, _∙_}
+use mathlib.Core.Path.{refl, sym, _∙_}
 use denote.Ref.{now}
 use borrow.Author.Needs.{needs}
-use Rattle.step.proofs.Bytes.{puts-none}
+use Rattle.step.specs.Names.{Tu}
+use Rattle.step.specs.Step.{quiet}
+use Rattle.step.proofs.Bytes.{puts-none, offers-first}
 use Rattle.step.proofs.Ways.{tu-as}
 use Rattle.step.proofs.sends.put_tu.Statement.{statement}
 use Rattle.step.proofs.sends.put_tu.Tie as tie
@@ -17,11 +19,17 @@ enum-told c = search needs
 none-requires : tie.Need-none-requires
 none-requires c κs = search needs
 
+in-first-requires : tie.Need-in-first-requires
+in-first-requires c κs = search needs
+
 enum-told-2 : tie.Need-enum-told-2
 enum-told-2 c = search needs
 
 put-code-requires : tie.Need-put-code-requires
 put-code-requires c κs = search needs
+
+in-first-requires-2 : tie.Need-in-first-requires-2
+in-first-requires-2 c κs = search needs
 
 enum-told-3 : tie.Need-enum-told-3
 enum-told-3 c = search needs
@@ -29,35 +37,48 @@ enum-told-3 c = search needs
 none-requires-2 : tie.Need-none-requires-2
 none-requires-2 c κs = search needs
 
+in-first-requires-3 : tie.Need-in-first-requires-3
+in-first-requires-3 c κs = search needs
+
 enum-told-4 : tie.Need-enum-told-4
 enum-told-4 c = search needs
 
 none-requires-3 : tie.Need-none-requires-3
 none-requires-3 c κs = search needs
 
+in-first-requires-4 : tie.Need-in-first-requires-4
+in-first-requires-4 c κs = search needs
+
 returns : tie.Need-returns
 returns c =
-    let a = c .before .before .before .before .before .before .args in
-    rw (tu-as (a .s) (a .c) _ (sym (c .before .before .before .route .ensures) ∙ c .before .enum-told .given .1), c .none .ensures) (puts-none _ (now (a .line)))
+    let e = c .before .before in
+    let a = e .before .before .before .before .before .before .args in
+    rw (tu-as (a .s) (a .c) _ (sym (e .before .before .route .ensures) ∙ e .enum-told .given .1), c .in-first .ensures, c .before .none .ensures)
+    (offers-first Tu (quiet (a .s)) _ (now (a .line)) (now (a .host)) _ refl (puts-none (a .s) (now (a .line))))
 
 same-length : tie.Need-same-length
 same-length c = search needs
 
 returns-2 : tie.Need-returns-2
 returns-2 c =
-    let e = c .before .before .before .before in
-    let a = e .before .before .before .before .before .args in
-    rw (tu-as (a .s) (a .c) _ (sym (e .before .before .route .ensures) ∙ e .enum-told2 .given .1)) (c .before .before .put-code .ensures)
+    let e = c .before .before .before .before .before in
+    let a = e .before .before .before .before .before .before .args in
+    rw (tu-as (a .s) (a .c) _ (sym (e .before .before .route .ensures) ∙ e .enum-told2 .given .1), c .in-first2 .ensures)
+    (offers-first Tu _ _ (now (a .line)) (now (a .host)) _ refl (c .before .before .before .put-code .ensures))
 
 returns-3 : tie.Need-returns-3
 returns-3 c =
-    let a = c .before .before .before .before .before .before .args in
-    rw (tu-as (a .s) (a .c) _ (sym (c .before .before .before .route .ensures) ∙ c .before .enum-told3 .given .1), c .none2 .ensures) (puts-none _ (now (a .line)))
+    let e = c .before .before in
+    let a = e .before .before .before .before .before .before .args in
+    rw (tu-as (a .s) (a .c) _ (sym (e .before .before .route .ensures) ∙ e .enum-told3 .given .1), c .in-first3 .ensures, c .before .none2 .ensures)
+    (offers-first Tu (quiet (a .s)) _ (now (a .line)) (now (a .host)) _ refl (puts-none (a .s) (now (a .line))))
 
 returns-4 : tie.Need-returns-4
 returns-4 c =
-    let a = c .before .before .before .before .before .before .args in
-    rw (tu-as (a .s) (a .c) _ (sym (c .before .before .before .route .ensures) ∙ c .before .enum-told4 .given .1), c .none3 .ensures) (puts-none _ (now (a .line)))
+    let e = c .before .before in
+    let a = e .before .before .before .before .before .before .args in
+    rw (tu-as (a .s) (a .c) _ (sym (e .before .before .route .ensures) ∙ e .enum-told4 .given .1), c .in-first4 .ensures, c .before .none3 .ensures)
+    (offers-first Tu (quiet (a .s)) _ (now (a .line)) (now (a .host)) _ refl (puts-none (a .s) (now (a .line))))
 
 pub put-tu-spec : {M : Type 1} → statement M
 put-tu-spec =
@@ -66,12 +87,16 @@ put-tu-spec =
     route-requires
     enum-told
     none-requires
+    in-first-requires
     enum-told-2
     put-code-requires
+    in-first-requires-2
     enum-told-3
     none-requires-2
+    in-first-requires-3
     enum-told-4
     none-requires-3
+    in-first-requires-4
     returns
     same-length
     returns-2
