@@ -7,10 +7,10 @@ use mathlib.Core.List.{List, [], _∷_}
 use Rattle.laws.proofs.Both.{both}
 use Rattle.step.specs.State.{sound}
 use Rattle.linebox.specs.Call.{Done, Told, taking, stopped, numberOf}
-use Rattle.linebox.specs.Call.{Calls, CallsOne}
+use Rattle.linebox.specs.Call.{Calls}
 use Rattle.board.specs.Names.{Stream, Called}
 use Rattle.spelling.specs.Spelling.{spells, spelt, stateOf}
-use Rattle.board.specs.Calls.{spellsSound, asked, Boards, BoardsOne}
+use Rattle.board.specs.Calls.{spellsSound, asked, Boards}
 
 -- bytes that spell a sound state spell a state that is sound
 pub the-sound : (b : List ℕ) → spellsSound b ≡ true → sound (stateOf b) ≡ true
@@ -48,11 +48,6 @@ module _ (t : Stream) (b xs : List ℕ) (n m : ℕ) where
       subst (λ (d : Done). Boards b d old₁ old₂ b old₁ old₂ (0 ∷ 0 ∷ 0 ∷ []) 3) (sym (three h))
       (record { answer = refl; bytes = rw h; told = refl; one = refl; two = refl })
 
-  pub refused-one : (old : List ℕ) → spellsSound b ≡ false → BoardsOne b (asked t b xs n m) old b old (0 ∷ 0 ∷ []) 3
-  refused-one old h =
-      subst (λ (d : Done). BoardsOne b d old b old (0 ∷ 0 ∷ []) 3) (sym (three h))
-      (record { answer = refl; bytes = rw h; told = refl; one = refl })
-
   -- bytes that spell a sound state: the box's own call is told
   pub boarded : (old₁ old₂ now₁ now₂ : List ℕ) (r : Called) → spellsSound b ≡ true → Calls (taking t (stateOf b) xs n m) old₁ old₂ now₁ now₂ r → Boards b (asked t b xs n m) old₁ old₂ (spelt (r .state)) now₁ now₂ (r .taken ∷ r .first ∷ r .second ∷ []) (numberOf (r .answer))
   boarded old₁ old₂ now₁ now₂ r h e =
@@ -63,14 +58,4 @@ module _ (t : Stream) (b xs : List ℕ) (n m : ℕ) where
         told = ap (λ (x : Told). x .taken ∷ x .first ∷ x .second ∷ []) (e .gives);
         one = e .one;
         two = e .two;
-      })
-
-  pub boarded-one : (old now : List ℕ) (r : Called) → spellsSound b ≡ true → CallsOne (taking t (stateOf b) xs n m) old now r → BoardsOne b (asked t b xs n m) old (spelt (r .state)) now (r .taken ∷ r .first ∷ []) (numberOf (r .answer))
-  boarded-one old now r h e =
-      subst (λ (d : Done). BoardsOne b d old (spelt (r .state)) now (r .taken ∷ r .first ∷ []) (numberOf (r .answer))) (sym (taken-on h))
-      (record {
-        answer = ap (λ (x : Told). x .answer) (e .gives);
-        bytes = rw h (ap (λ (x : Told). spelt (x .state)) (e .gives));
-        told = ap (λ (x : Told). x .taken ∷ x .first ∷ []) (e .gives);
-        one = e .one;
       })

@@ -7,7 +7,7 @@ use lib.ListN.{length}
 use Rattle.laws.specs.Written.{fronted}
 use Rattle.step.specs.State.{sound}
 use Rattle.linebox.specs.Call.{Done, call, stopped}
-use Rattle.board.specs.Names.{Stream, Tu}
+use Rattle.board.specs.Names.{Stream}
 use Rattle.spelling.specs.Spelling.{spells, spelt, stateOf}
 
 -- the bytes are the spelling of a sound state
@@ -22,7 +22,7 @@ asked t b xs n m = cond (spells b) (call t (stateOf b) xs n m) (stopped 3 (state
 abbrev pub after : List ℕ → Done → List ℕ
 after b d = cond (spellsSound b) (spelt (d .state)) b
 
--- A call that lends two buffers: the answer's number, the state's bytes, what was taken and what was written to each buffer in the
+-- A call: the answer's number, the state's bytes, what was taken and what was written to each buffer in the
 -- order lent, and every byte of the buffers.
 pub record Boards (b : List ℕ) (d : Done) (old₁ old₂ state now₁ now₂ done : List ℕ) (r : ℕ) : Type 0 where
   pub answer : r ≡ d .answer
@@ -31,19 +31,6 @@ pub record Boards (b : List ℕ) (d : Done) (old₁ old₂ state now₁ now₂ d
   pub one : now₁ ≡ fronted old₁ (d .first)
   pub two : now₂ ≡ fronted old₂ (d .second)
 
--- the same with one buffer
-pub record BoardsOne (b : List ℕ) (d : Done) (old state now done : List ℕ) (r : ℕ) : Type 0 where
-  pub answer : r ≡ d .answer
-  pub bytes : state ≡ after b d
-  pub told : done ≡ d .taken ∷ length (d .first) ∷ []
-  pub one : now ≡ fronted old (d .first)
-
--- The promises of the calls, on the state's bytes b.
-
--- a host or a line call
+-- The promise of a call, on the state's bytes b.
 abbrev pub Boarded : Stream → List ℕ → List ℕ → List ℕ → List ℕ → List ℕ → List ℕ → List ℕ → List ℕ → ℕ → Type 0
 Boarded t b xs old₁ old₂ state now₁ now₂ done r = Boards b (asked t b xs (length old₁) (length old₂)) old₁ old₂ state now₁ now₂ done r
-
--- a TU call
-abbrev pub BoardedTu : List ℕ → List ℕ → List ℕ → List ℕ → List ℕ → List ℕ → ℕ → Type 0
-BoardedTu b xs old state now done r = BoardsOne b (asked Tu b xs (length old) 0) old state now done r

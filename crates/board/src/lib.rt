@@ -2,9 +2,9 @@
 ghost use mathlib.Core.Path.{_≡_};
 ghost use mathlib.Core.List.{[], _∷_};
 ghost use Rattle.step.specs.State.{freshBox};
-ghost use Rattle.board.specs.Names.{Host as Names·Host, Line as Names·Line};
+ghost use Rattle.board.specs.Names.{Host as Names·Host, Line as Names·Line, Tu as Names·Tu};
 ghost use Rattle.spelling.specs.Spelling.{spelt, stateOf};
-ghost use Rattle.board.specs.Calls.{Boarded, BoardedTu, spellsSound};
+ghost use Rattle.board.specs.Calls.{Boarded, spellsSound};
 ghost use Rattle.board.specs.Finds.{Finds};
 use linebox::Called;
 use linebox::calls::take_host;
@@ -111,23 +111,24 @@ pub extern "C" fn linebox_tu(
     state: &mut [u8; 128],
     codes: &[u8],
     line: &mut [u8],
-    done: &mut [u64; 2],
+    host: &mut [u8],
+    done: &mut [u64; 3],
 ) -> u32
     ensures { λ r. ⌜
-        BoardedTu (now (state .entry)) (now (codes .entry)) (now (line .entry)) (now (state .exit)) (now (line .exit)) (now (done .exit)) r
+        Boarded Names·Tu (now (state .entry)) (now (codes .entry)) (now (line .entry)) (now (host .entry)) (now (state .exit)) (now (line .exit)) (now (host .exit)) (now (done .exit)) r
         ⌝ }
 {
     let x = open_state(state);
     if !x.sound {
-        *done = [0, 0];
+        *done = [0, 0, 0];
         return 3;
     }
     let s = x.state;
-    let c = take_tu(s, codes, line);
+    let c = take_tu(s, codes, line, host);
     let next = c.state;
     let answer = c.answer;
     save(next, state);
-    *done = [c.taken as u64, c.first as u64];
+    *done = counts(c);
     number_of(answer)
 }
 

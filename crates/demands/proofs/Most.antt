@@ -82,7 +82,7 @@ few-first Tu x f = f .line
 few-second : (t : Stream) (x : Step) → Few t x → length (secondOf t x) ≤ mostSecond t
 few-second Host x f = f .host
 few-second Line x f = f .tu
-few-second Tu x f = lit≤ tt
+few-second Tu x f = f .host
 
 few-forty : (t : Stream) (x : Step) → Few t x → (length (x .line) ≤ 40) × ((length (x .host) ≤ 40) × (length (x .tu) ≤ 40))
 few-forty Host x f = (omega (arith, f .line), (omega (arith, f .host), omega (arith, f .tu)))

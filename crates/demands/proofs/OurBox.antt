@@ -10,10 +10,10 @@ use lib.ListN.{length, getD, take, drop, length-append, length-take, take-append
 use lib.Seq.{drop-cons, split-at, take-at, getD-at, length-take-le}
 use Rattle.laws.specs.Written.{fronted}
 use Rattle.step.specs.State.{sound}
-use Rattle.linebox.specs.Call.{Done, Told, call, called, told as toldOf, Calls, CallsOne}
+use Rattle.linebox.specs.Call.{Done, Told, call, told as toldOf, Calls}
 use Rattle.linebox.specs.Ends.{outcome, fromSound, When, Takes, Ends}
-use Rattle.linebox.proofs.Ending.{ends, folds, only, one, within, call-fits}
-use Rattle.demands.specs.Names.{State, Stream, Tu, Called}
+use Rattle.linebox.proofs.Ending.{ends, folds, only, one, within}
+use Rattle.demands.specs.Names.{State, Stream, Called}
 use Rattle.demands.specs.Box.{Result, Box, resulting, ours}
 use Rattle.demands.specs.ExactCodes.{ExactCodes}
 use Rattle.demands.specs.EveryCall.{noCode, hasRoom, Goes, Exactly, Condition, Splits, Ended, EveryCall}
@@ -145,18 +145,6 @@ ours-every-call t s xs one two =
 pub promised : (t : Stream) (s : State) (xs one two now₁ now₂ : List ℕ) (r : Called) → Calls (call t s xs (length one) (length two)) one two now₁ now₂ r
     → ours t s xs one two ≡ record { gives = toldOf r; first = now₁; second = now₂ }
 promised t s xs one two now₁ now₂ r p = rw (p .gives, p .one, p .two)
-
--- A TU call is lent one buffer.
-
-pub none : (xs : List ℕ) → length xs ≤ 0 → xs ≡ []
-none [] h = refl
-none (x ∷ xs) h = absurd (omega (arith, h))
-
-pub promised-tu : (s : State) (xs one now : List ℕ) (r : Called) → CallsOne (call Tu s xs (length one) 0) one now r → ours Tu s xs one [] ≡ record { gives = toldOf r; first = now; second = [] }
-promised-tu s xs one now r p =
-    let d = call Tu s xs (length one) 0 in
-    let e : d .second ≡ [] = none (d .second) (call-fits Tu s xs (length one) 0 .1) in
-    rw (p .gives, p .one) (ap (λ (ys : List ℕ). record { gives = called d; first = fronted one (d .first); second = fronted [] ys }) e)
 
 -- Nothing else meets it.
 

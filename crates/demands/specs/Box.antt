@@ -12,7 +12,7 @@ pub record Result : Type 0 where
   pub first : List ℕ
   pub second : List ℕ
 
--- one call for each stream: a state, the input, and the two lent buffers; a TU call leaves the second alone
+-- one call for each stream: a state, the input, and the two lent buffers
 abbrev pub Box : Type 0
 Box = Stream → State → List ℕ → List ℕ → List ℕ → Result
 

@@ -32,7 +32,7 @@ again-promised = record { answer = refl; bytes = refl; told = refl; one = refl; 
 
 dropped-promised : Promised dropped
 unfolding spells spelt stateOf conversion kindOf rowAt digits soundString row route soundStandIn soundSettings soundConnection commanded endings limit onspace onreturn filter reports standIn endingCodes
-dropped-promised = (record { answer = refl; bytes = refl; told = refl; one = refl }, (refl, refl))
+dropped-promised = record { answer = refl; bytes = refl; told = refl; one = refl; two = refl }
 
 pub example-session : Session (spelt freshBox) calls
 unfolding spelt

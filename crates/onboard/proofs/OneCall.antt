@@ -2,9 +2,9 @@
 -- after it reads back as that state.
 -- Assumes nothing.
 use Prim.Native.Nat.{ℕ}
-use mathlib.Core.Path.{_≡_, refl, sym, ap, _∙_, subst}
-use mathlib.Core.Bool.{Bool, true, false, cond}
-use mathlib.Core.List.{List, []}
+use mathlib.Core.Path.{_≡_, refl, sym, ap, _∙_}
+use mathlib.Core.Bool.{true, false}
+use mathlib.Core.List.{List}
 use lib.ListN.{length, getD}
 use Rattle.laws.proofs.Both.{both}
 use Rattle.laws.specs.Written.{fronted}
@@ -14,14 +14,13 @@ use Rattle.linebox.specs.Call.{Done, call, stopped}
 use Rattle.linebox.specs.Ends.{events}
 use Rattle.spelling.specs.Spelling.{spells, spelt, stateOf}
 use Rattle.spelling.proofs.ReadBack.{sound-formed, read-back}
-use Rattle.board.specs.Calls.{spellsSound, after, asked, Boards, BoardsOne}
+use Rattle.board.specs.Calls.{spellsSound, after, asked, Boards}
 use Rattle.board.proofs.Asked.{three}
 use Rattle.demands.specs.Box.{Result, resulting, ours}
 use Rattle.demands.specs.EveryCall.{Ended}
-use Rattle.demands.proofs.OurBox.{ours-every-call, none}
-use Rattle.linebox.proofs.Ending.{call-fits}
-use Rattle.onboard.specs.Names.{State, Stream, Host, Line, Tu}
-use Rattle.onboard.specs.OneCall.{Wire, PromisedBy, Promised, seen, OneCall}
+use Rattle.demands.proofs.OurBox.{ours-every-call}
+use Rattle.onboard.specs.Names.{State, Stream}
+use Rattle.onboard.specs.OneCall.{Wire, Promised, seen, OneCall}
 
 -- The spelling of a sound state is the spelling of just that state.
 
@@ -49,32 +48,6 @@ boards-follow c d p = record {
   two = p .two;
 }
 
--- a TU call writes nothing to a second buffer
-tu-second : (b xs : List ℕ) (n : ℕ) → asked Tu b xs n 0 .second ≡ []
-tu-second b xs n = go (spells b)
-  where
-    go : (x : Bool) → cond x (call Tu (stateOf b) xs n 0) (stopped 3 (stateOf b)) .second ≡ []
-    go true = none (call Tu (stateOf b) xs n 0 .second) (call-fits Tu (stateOf b) xs n 0 .1)
-    go false = refl
-
-tu-follows : (c : Wire) (d : Done) → d .second ≡ [] → BoardsOne (c .state) d (c .one) (c .after) (c .first) (c .done) (c .answer) → c .two ≡ [] → c .second ≡ [] → Follows c d
-tu-follows c d e p u v = record {
-  answer = p .answer;
-  bytes = p .bytes;
-  taken = ap (λ (xs : List ℕ). getD xs 0 0) (p .told);
-  count-first = ap (λ (xs : List ℕ). getD xs 1 0) (p .told);
-  count-second = ap (λ (xs : List ℕ). getD xs 2 0) (p .told) ∙ sym (ap length e);
-  one = p .one;
-  two = rw (e, u, v);
-}
-
-follows-by : (t : Stream) (c : Wire) → PromisedBy t c → Follows c (asked t (c .state) (c .bytes) (length (c .one)) (length (c .two)))
-follows-by Host c p = boards-follow c _ p
-follows-by Line c p = boards-follow c _ p
-follows-by Tu c p =
-    let d : ℕ → Done = asked Tu (c .state) (c .bytes) (length (c .one)) in
-    subst (λ (n : ℕ). Follows c (d n)) (sym (ap length (p .1 .0))) (tu-follows c (d 0) (tu-second (c .state) (c .bytes) (length (c .one))) (p .0) (p .1 .0) (p .1 .1))
-
 -- What follows an outcome is that outcome as a box's result, where the bytes after it spell its state.
 seen-follows : (c : Wire) (d : Done) → Follows c d → stateOf (c .after) ≡ d .state → seen c ≡ resulting d (c .one) (c .two)
 seen-follows c d f e = rw (f .answer, f .taken, f .count-first, f .count-second, f .one, f .two, e)
@@ -101,7 +74,7 @@ module _ (c : Wire) (p : Promised c) where
     asks-call = rw (both (spells (c .state)) (sound s) h .0)
 
     follows : Follows c d
-    follows = rw asks-call at (follows-by t c p)
+    follows = rw asks-call at (boards-follow c _ p)
 
     ours-ended : Ended t s (c .bytes) (c .one) (c .two) (ours t s (c .bytes) (c .one) (c .two))
     ours-ended = ours-every-call t s (c .bytes) (c .one) (c .two)
@@ -123,7 +96,7 @@ module _ (c : Wire) (p : Promised c) where
   -- any others are answered 3
   module _ (h : spellsSound (c .state) ≡ false) where
     refused-follows : Follows c (stopped 3 s)
-    refused-follows = rw (three t (c .state) (c .bytes) a b h) at (follows-by t c p)
+    refused-follows = rw (three t (c .state) (c .bytes) a b h) at (boards-follow c _ p)
 
     after-kept : c .after ≡ c .state
     after-kept = refused-follows .bytes ∙ rw h

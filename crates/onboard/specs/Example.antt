@@ -64,7 +64,7 @@ dropped = record {
   two = [];
   answer = 0;
   after = bytes 1 1 60 2;
-  done = 1 ∷ 0 ∷ [];
+  done = 1 ∷ 0 ∷ 0 ∷ [];
   first = 0 ∷ [];
   second = [];
 }

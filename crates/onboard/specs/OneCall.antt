@@ -6,13 +6,13 @@ use mathlib.Core.List.{List, []}
 use lib.ListN.{getD}
 use Rattle.linebox.specs.Call.{stopped}
 use Rattle.spelling.specs.Spelling.{stateOf}
-use Rattle.board.specs.Calls.{spellsSound, Boarded, BoardedTu}
+use Rattle.board.specs.Calls.{spellsSound, Boarded}
 use Rattle.demands.specs.Box.{Result, resulting}
 use Rattle.demands.specs.EveryCall.{Ended}
-use Rattle.onboard.specs.Names.{Stream, Host, Line, Tu}
+use Rattle.onboard.specs.Names.{Stream}
 
 -- what a call for C was given: a stream, the state's bytes, the input and the two lent buffers; and what it gave: its answer, the
--- state's bytes, the counts in `done`, and the buffers after it. A TU call is lent one buffer.
+-- state's bytes, the counts in `done`, and the buffers after it.
 pub record Wire : Type 0 where
   pub stream : Stream
   pub state : List ℕ
@@ -26,13 +26,8 @@ pub record Wire : Type 0 where
   pub second : List ℕ
 
 -- the promise of `linebox_host`, `linebox_line` or `linebox_tu`
-abbrev pub PromisedBy : Stream → Wire → Type 0
-PromisedBy Host c = Boarded Host (c .state) (c .bytes) (c .one) (c .two) (c .after) (c .first) (c .second) (c .done) (c .answer)
-PromisedBy Line c = Boarded Line (c .state) (c .bytes) (c .one) (c .two) (c .after) (c .first) (c .second) (c .done) (c .answer)
-PromisedBy Tu c = BoardedTu (c .state) (c .bytes) (c .one) (c .after) (c .first) (c .done) (c .answer) × ((c .two ≡ []) × (c .second ≡ []))
-
 abbrev pub Promised : Wire → Type 0
-Promised c = PromisedBy (c .stream) c
+Promised c = Boarded (c .stream) (c .state) (c .bytes) (c .one) (c .two) (c .after) (c .first) (c .second) (c .done) (c .answer)
 
 -- what it gave as a box's result, with the state that the bytes spell
 abbrev pub seen : Wire → Result

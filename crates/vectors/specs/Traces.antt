@@ -30,7 +30,7 @@ judged false state = record { verdict = Differs; next = ready state }
 abbrev pub prepared : Start → Ran
 prepared b = record { verdict = Other; next = b }
 
--- what a stream takes, and its call's second buffer: host bytes, or codes
+-- what a stream takes: host bytes, or codes
 abbrev pub formTaken : Stream → Form
 formTaken Host = Escaped
 formTaken Line = Decimal
@@ -41,6 +41,12 @@ abbrev pub formFirst : Stream → Form
 formFirst Host = Decimal
 formFirst Line = Escaped
 formFirst Tu = Decimal
+
+-- and its second
+abbrev pub formSecond : Stream → Form
+formSecond Host = Escaped
+formSecond Line = Decimal
+formSecond Tu = Escaped
 
 -- the numbers of a line's first field, in so many places
 abbrev pub numbersIn : ℕ → List ℕ → List ℕ

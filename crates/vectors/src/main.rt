@@ -124,7 +124,13 @@ fn call(t: Stream, b: Start, input: &[u8], one: &mut [u8], two: &mut [u8]) -> Ca
             &mut one[0..first],
             &mut two[0..second],
         ),
-        Stream::Tu => linebox::calls::tu(state, input, from, &mut one[0..first]),
+        Stream::Tu => linebox::calls::tu(
+            state,
+            input,
+            from,
+            &mut one[0..first],
+            &mut two[0..second],
+        ),
     }
 }
 
@@ -144,10 +150,10 @@ fn run_call(t: Stream, b: Start, s: &[u8]) -> Ran {
     let told = front(&two, r.second);
     let same = is_ended(r, left, before_bar(after_bar(second)))
         && is_shown(traces::form_first(t), sent, before_bar(first))
-        && is_shown(traces::form_taken(t), told, before_bar(second));
+        && is_shown(traces::form_second(t), told, before_bar(second));
     if !same {
         print_shown(traces::form_first(t), sent);
-        print_shown(traces::form_taken(t), told);
+        print_shown(traces::form_second(t), told);
     }
     let next = r.state;
     judged(same, next)

@@ -1,6 +1,6 @@
 // What the calls of the traced lines and commands start with: a box, the room of the buffers, and the count taken so far.
 ghost use mathlib.Core.Path.{_≡_};
-ghost use Rattle.vectors.specs.Traces.{ready, judged, prepared, formTaken, formFirst, lending, limited};
+ghost use Rattle.vectors.specs.Traces.{ready, judged, prepared, formTaken, formFirst, formSecond, lending, limited};
 use crate::text::Form;
 use crate::text::after_bar;
 use crate::text::before_bar;
@@ -69,7 +69,7 @@ pub fn prepared(b: Start) -> Ran
     }
 }
 
-// How the text of a vector has what a stream takes, and what its call puts into the second buffer.
+// How the text of a vector has what a stream takes.
 pub fn form_taken(t: Stream) -> Form
     ensures { λ r. ⌜ r ≡ formTaken t ⌝ }
 {
@@ -88,6 +88,17 @@ pub fn form_first(t: Stream) -> Form
         Stream::Host => Form::Decimal,
         Stream::Line => Form::Escaped,
         Stream::Tu => Form::Decimal,
+    }
+}
+
+// How it has what the call puts into the second buffer.
+pub fn form_second(t: Stream) -> Form
+    ensures { λ r. ⌜ r ≡ formSecond t ⌝ }
+{
+    match t {
+        Stream::Host => Form::Escaped,
+        Stream::Line => Form::Decimal,
+        Stream::Tu => Form::Escaped,
     }
 }
 
