@@ -8,7 +8,7 @@ use native.Mathlib.Omega.{arith}
 use borrow.Author.Tests.{eqb-true}
 use lib.Dec.{eqb}
 use lib.ListN.{getD}
-use Rattle.settings.specs.Names.{Verb, Write, Read, Other, Settings, Connection, Row, Takes, Count, Fault}
+use Rattle.settings.specs.Names.{Verb, Write, Read, Other, Settings, Calling, Connection, Row, Takes, Count, Fault}
 use Rattle.settings.specs.Names.takes
 use Rattle.settings.specs.Names.fault
 use Rattle.laws.proofs.Both.{both}
@@ -57,14 +57,14 @@ unjudged fault.Parameters ok h = refl
 unjudged fault.Checksum ok h = refl
 unjudged fault.Range ok h = refl
 
-module _ (s : Settings) (c : Connection) (v : Verb) (count : ℕ) (fields : List ℕ) where
+module _ (s : Settings) (k : Calling) (c : Connection) (v : Verb) (count : ℕ) (fields : List ℕ) where
   -- a command without error succeeds
-  pub success : wrong s c v count fields ≡ fault.Nothing → commanded s c v count fields ≡ succeeded s c v (row (getD fields 0 0)) fields
+  pub success : wrong s k c v count fields ≡ fault.Nothing → commanded s k c v count fields ≡ succeeded s k c v (row (getD fields 0 0)) fields
   unfolding commanded
   success h = rw h
 
   -- an error changes nothing, and answers its number
-  pub refusal : (f : Fault) → wrong s c v count fields ≡ f → (f ≡ fault.Nothing → ⊥) → commanded s c v count fields ≡ refused s c (getD fields 0 0) f
+  pub refusal : (f : Fault) → wrong s k c v count fields ≡ f → (f ≡ fault.Nothing → ⊥) → commanded s k c v count fields ≡ refused s k c (getD fields 0 0) f
   unfolding commanded
   refusal fault.Nothing e h = absurd (h refl)
   refusal fault.Type e h = rw e

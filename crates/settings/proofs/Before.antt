@@ -11,7 +11,7 @@ use lib.Dec.{eqb, leb, ltb}
 use lib.ListN.{length, getD, take, set}
 use Rattle.word.specs.Word.{unpacked, packed, isWord}
 use Rattle.word.proofs.Words.{codes-packed, packed-codes}
-use Rattle.settings.specs.Names.{Settings, Connection, Home, Version, Linked, Unlinked, Value, String, Factory, Nowhere}
+use Rattle.settings.specs.Names.{Settings, Calling, Connection, Home, Version, Linked, Unlinked, Value, String, Power, Signal, Factory, Nowhere}
 use Rattle.settings.specs.Table.{allCodes, padded, opens, soundString, inRange, options, optionPlace, factoryValues, factory, allIn, isStandIn, soundStandIn, soundSettings}
 use Rattle.settings.specs.Options.{endingCodes}
 use Rattle.settings.specs.Command.{store, valuesAt}
@@ -48,18 +48,22 @@ storeBefore s (Linked last) ps = s
 storeBefore s Unlinked ps = s
 storeBefore s (Value place low high) ps = record { values = set (s .values) place (getD ps 0 0); string = s .string }
 storeBefore s String ps = record { values = s .values; string = take 8 ps }
+storeBefore s Power ps = s
+storeBefore s (Signal place) ps = s
 storeBefore s Factory ps = factoryBefore
 storeBefore s Nowhere ps = s
 
 -- the values of an id
-abbrev pub valuesBefore : Before → Connection → Home → List ℕ
-valuesBefore s c Version = 0 ∷ 0 ∷ 1 ∷ 0 ∷ []
-valuesBefore s c (Linked last) = c .port ∷ c .speed ∷ []
-valuesBefore s c Unlinked = []
-valuesBefore s c (Value place low high) = getD (s .values) place 0 ∷ []
-valuesBefore s c String = s .string
-valuesBefore s c Factory = []
-valuesBefore s c Nowhere = []
+abbrev pub valuesBefore : Before → Calling → Connection → Home → List ℕ
+valuesBefore s k c Version = 0 ∷ 0 ∷ 1 ∷ 0 ∷ []
+valuesBefore s k c (Linked last) = c .port ∷ c .speed ∷ []
+valuesBefore s k c Unlinked = []
+valuesBefore s k c (Value place low high) = getD (s .values) place 0 ∷ []
+valuesBefore s k c String = s .string
+valuesBefore s k c Power = k .power ∷ []
+valuesBefore s k c (Signal place) = unpacked (getD (k .strings) place 0)
+valuesBefore s k c Factory = []
+valuesBefore s k c Nowhere = []
 
 -- string 90: the line ending
 abbrev pub codesBefore : Before → List ℕ
@@ -107,24 +111,28 @@ unfolding soundSettings
 upper-unsound s h = rw (h, and-false (soundStandIn s)) (and-false (allIn options (s .values)))
 
 -- what a write stores
-pub store-as-before : (s : Settings) (c : Connection) (h : Home) (n : ℕ) (ps : List ℕ) → length ps ≡ 9 → inRange h ps ≡ true → asBefore (store s c h n ps .settings) ≡ storeBefore (asBefore s) h ps
-store-as-before s c Version n ps l i = refl
-store-as-before s c (Linked last) n ps l i = refl
-store-as-before s c Unlinked n ps l i = refl
-store-as-before s c (Value place low high) n ps l i = refl
-store-as-before s c String n ps l i = ap (λ (cs : List ℕ). record { values = s .values; string = cs }) (string-back ps l i)
-store-as-before s c Factory n ps l i = refl
-store-as-before s c Nowhere n ps l i = refl
+pub store-as-before : (s : Settings) (k : Calling) (c : Connection) (h : Home) (n : ℕ) (ps : List ℕ) → length ps ≡ 9 → inRange h ps ≡ true → asBefore (store s k c h n ps .settings) ≡ storeBefore (asBefore s) h ps
+store-as-before s k c Version n ps l i = refl
+store-as-before s k c (Linked last) n ps l i = refl
+store-as-before s k c Unlinked n ps l i = refl
+store-as-before s k c (Value place low high) n ps l i = refl
+store-as-before s k c String n ps l i = ap (λ (cs : List ℕ). record { values = s .values; string = cs }) (string-back ps l i)
+store-as-before s k c Power n ps l i = refl
+store-as-before s k c (Signal place) n ps l i = refl
+store-as-before s k c Factory n ps l i = refl
+store-as-before s k c Nowhere n ps l i = refl
 
 -- what a read answers
-pub values-as-before : (s : Settings) (c : Connection) (h : Home) → valuesAt s c h ≡ valuesBefore (asBefore s) c h
-values-as-before s c Version = refl
-values-as-before s c (Linked last) = refl
-values-as-before s c Unlinked = refl
-values-as-before s c (Value place low high) = refl
-values-as-before s c String = refl
-values-as-before s c Factory = refl
-values-as-before s c Nowhere = refl
+pub values-as-before : (s : Settings) (k : Calling) (c : Connection) (h : Home) → valuesAt s k c h ≡ valuesBefore (asBefore s) k c h
+values-as-before s k c Version = refl
+values-as-before s k c (Linked last) = refl
+values-as-before s k c Unlinked = refl
+values-as-before s k c (Value place low high) = refl
+values-as-before s k c String = refl
+values-as-before s k c Power = refl
+values-as-before s k c (Signal place) = refl
+values-as-before s k c Factory = refl
+values-as-before s k c Nowhere = refl
 
 -- what an ending sends
 pub ending-as-before : (s : Settings) → endingCodes s ≡ codesBefore (asBefore s)

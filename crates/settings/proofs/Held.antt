@@ -1,17 +1,17 @@
--- Values held for options: a value for each, in its range; one that is set in range leaves them so.
+-- Values held for options, and the five strings of a call: each in its range; one that is set in range leaves them so.
 -- Assumes nothing.
-use Prim.Native.Nat.{ℕ, zero, suc, _<_, _≤_}
+use Prim.Native.Nat.{ℕ, zero, suc, _<_}
 use mathlib.Core.Path.{_≡_, refl, ap}
-use mathlib.Core.Bool.{Bool, true, false, _&&_, false≢true}
+use mathlib.Core.Bool.{true, false, _&&_, false≢true}
 use mathlib.Core.List.{List, [], _∷_}
 use native.Mathlib.Omega.{arith}
-use borrow.Author.Tests.{leb-true}
-use lib.Dec.{leb, lit≤}
+use borrow.Author.Tests.{eqb-true}
+use lib.Dec.{eqb, lit≤}
 use lib.ListN.{length, getD, set}
 use Rattle.word.specs.Word.{unpacked, isWord}
 use Rattle.laws.proofs.Both.{both}
-use Rattle.settings.specs.Names.{Settings}
-use Rattle.settings.specs.Table.{between, Option, options, allIn, soundStandIn, soundString, soundSettings}
+use Rattle.settings.specs.Names.{Settings, Calling}
+use Rattle.settings.specs.Table.{between, Option, options, allIn, padded, isPower, soundStandIn, soundString, soundSettings, isSignal, allSignals, soundCalling}
 use Rattle.settings.specs.Options.{limit, endingCodes}
 use Rattle.settings.proofs.Rows.{lowAt, highAt}
 
@@ -84,3 +84,46 @@ module _ (s : Settings) (h : soundSettings s ≡ true) where
   pub limit-in : between 10 80 (limit s) ≡ true
   unfolding limit
   limit-in = value-in options (s .values) 1 values-in (lit≤ tt)
+
+-- The strings of a call.
+
+-- each is by its rules, and so is 0, which stands for those that there are not
+pub signal-in : (ns : List ℕ) (i : ℕ) → allSignals ns ≡ true → isSignal (getD ns i 0) ≡ true
+unfolding isSignal
+signal-in [] i h = refl
+signal-in (m ∷ ms) zero h = both (isSignal m) (allSignals ms) h .0
+signal-in (m ∷ ms) (suc i) h = signal-in ms i (both (isSignal m) (allSignals ms) h .1)
+
+-- another by its rules
+pub set-signals : (ns : List ℕ) (i n : ℕ) → allSignals ns ≡ true → isSignal n ≡ true → allSignals (set ns i n) ≡ true
+set-signals [] i n h r = refl
+set-signals (m ∷ ms) zero n h r = rw (r, both (isSignal m) (allSignals ms) h .1)
+set-signals (m ∷ ms) (suc i) n h r =
+    let b = both (isSignal m) (allSignals ms) h in
+    rw (b .0, set-signals ms i n (b .1) r)
+
+-- Sound calling.
+
+module _ (k : Calling) (h : soundCalling k ≡ true) where
+  parts : (isPower (k .power) ≡ true) × ((eqb (length (k .strings)) 5 ≡ true) × (allSignals (k .strings) ≡ true))
+  unfolding soundCalling
+  parts =
+      let b = both (isPower (k .power)) (eqb (length (k .strings)) 5 && allSignals (k .strings)) h in
+      (b .0, both (eqb (length (k .strings)) 5) (allSignals (k .strings)) (b .1))
+
+  -- the motor power mode is in its range
+  pub power-in : isPower (k .power) ≡ true
+  power-in = parts .0
+
+  -- there are five strings
+  pub five-strings : length (k .strings) ≡ 5
+  five-strings = eqb-true (length (k .strings)) 5 (parts .1 .0)
+
+  -- each by its rules
+  pub signals-in : allSignals (k .strings) ≡ true
+  signals-in = parts .1 .1
+
+  -- the upper bits of each are zero
+  pub each-word : (i : ℕ) → isWord (getD (k .strings) i 0) ≡ true
+  unfolding isSignal
+  each-word i = both (isWord (getD (k .strings) i 0)) (padded (unpacked (getD (k .strings) i 0))) (signal-in (k .strings) i signals-in) .0

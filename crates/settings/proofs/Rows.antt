@@ -9,7 +9,7 @@ use borrow.Author.Tests.{eqb-true}
 use lib.Dec.{eqb, leb, ltb}
 use lib.ListN.{length}
 use Rattle.laws.proofs.Both.{both}
-use Rattle.settings.specs.Names.{Home, Version, Linked, Unlinked, Value, String, Factory, Nowhere, Row}
+use Rattle.settings.specs.Names.{Home, Version, Linked, Unlinked, Value, String, Power, Signal, Factory, Nowhere, Row}
 use Rattle.settings.specs.Table.{Option, options, rowsFrom, undefined, seek, row}
 
 -- The row that is sought.
@@ -52,8 +52,8 @@ highAt [] i = 0
 highAt (x ∷ xs) zero = x .high
 highAt (x ∷ xs) (suc i) = highAt xs i
 
--- What is tested of a row: its values are bytes, an option's range is that of its place, what can be written can be read, and an id that
--- the table does not have can be neither.
+-- What is tested of a row: its values are bytes, an option's range is that of its place, a string of 91 to 95 has one of five places, what
+-- can be written can be read, and an id that the table does not have can be neither.
 
 abbrev pub fitsHome : Home → Bool → Bool → Bool
 fitsHome Version written read = not written
@@ -61,6 +61,8 @@ fitsHome (Linked last) written read = leb last 255
 fitsHome Unlinked written read = true
 fitsHome (Value i low high) written read = read && ((ltb i (length options) && leb high 255) && (eqb low (lowAt options i) && eqb high (highAt options i)))
 fitsHome String written read = read
+fitsHome Power written read = read
+fitsHome (Signal place) written read = read && ltb place 5
 fitsHome Factory written read = true
 fitsHome Nowhere written read = not written && not read
 
@@ -78,6 +80,8 @@ numberFits (Linked last) n = leb n 255
 numberFits Unlinked n = leb n 255
 numberFits (Value i low high) n = leb n 255
 numberFits String n = leb n 99
+numberFits Power n = leb n 255
+numberFits (Signal place) n = leb n 99
 numberFits Factory n = leb n 255
 numberFits Nowhere n = leb n 255
 

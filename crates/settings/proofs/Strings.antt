@@ -11,7 +11,7 @@ use lib.Dec.{eqb, lit≤}
 use lib.ListN.{length}
 use Rattle.word.specs.Word.{digitsBy, unpacked, packed, isWord}
 use Rattle.word.proofs.Words.{digits-below, fewer, codes-packed, below}
-use Rattle.settings.specs.Table.{allCodes, allZero, padded, early, opens, soundString}
+use Rattle.settings.specs.Table.{allCodes, allZero, padded, early, opens, soundString, soundSignal, isSignal}
 
 -- so many codes are left, and what is asked of all is asked of them
 pub record Left (f : List ℕ → Bool) (n rest : ℕ) : Type 0 where
@@ -87,6 +87,10 @@ opens-end n rest l e = go (l .k) (l .small) (l .same)
 pub string-word : (cs : List ℕ) → length cs ≡ 8 → allCodes cs ≡ true → (isWord (packed cs) && (padded (unpacked (packed cs)) && opens (unpacked (packed cs)))) ≡ soundString cs
 unfolding soundString
 string-word cs l h = rw (below cs l h, h) (ap (λ (xs : List ℕ). padded xs && opens xs) (codes-packed cs l h))
+
+pub signal-word : (cs : List ℕ) → length cs ≡ 8 → allCodes cs ≡ true → isSignal (packed cs) ≡ soundSignal cs
+unfolding isSignal soundSignal
+signal-word cs l h = rw (below cs l h, h) (ap padded (codes-packed cs l h))
 
 -- a word's codes need no test
 pub word-string : (n : ℕ) → (padded (unpacked n) && opens (unpacked n)) ≡ soundString (unpacked n)

@@ -1,7 +1,7 @@
 -- A list walked place by place, by a function that goes down it.
 -- Assumes nothing.
 use Prim.Native.Nat.{ℕ, zero, suc, _+_, _≤_, _<_}
-use mathlib.Core.Path.{_≡_, ap, _∙_}
+use mathlib.Core.Path.{_≡_, refl, ap, _∙_}
 use mathlib.Core.List.{List, [], _∷_}
 use native.Mathlib.Omega.{arith}
 use native.Mathlib.Numerals.{add-one}
@@ -26,3 +26,12 @@ spread i (suc n) xs = getD xs i 0 ∷ spread (suc i) n xs
 pub spread-all : (n i : ℕ) (xs : List ℕ) → length xs ≡ i + n → drop i xs ≡ spread i n xs
 spread-all zero i xs e = drop-of-length-le xs {i = i} (omega (arith, e))
 spread-all (suc n) i xs e = drop-cons xs i 0 (omega (arith, e)) ∙ ap (λ (l : List ℕ). getD xs i 0 ∷ l) (spread-all n (suc i) xs (omega (arith, e)))
+
+-- none of the first five
+pub past-five : (n : ℕ) → (n ≡ 0 → ⊥) → (n ≡ 1 → ⊥) → (n ≡ 2 → ⊥) → (n ≡ 3 → ⊥) → (n ≡ 4 → ⊥) → 5 ≤ n
+past-five zero a b c d e = absurd (a refl)
+past-five (suc zero) a b c d e = absurd (b refl)
+past-five (suc (suc zero)) a b c d e = absurd (c refl)
+past-five (suc (suc (suc zero))) a b c d e = absurd (d refl)
+past-five (suc (suc (suc (suc zero)))) a b c d e = absurd (e refl)
+past-five (suc (suc (suc (suc (suc n))))) a b c d e = omega arith

@@ -6,10 +6,10 @@ use mathlib.Core.List.{List, [], _∷_, _++_}
 use lib.Dec.{eqb}
 use lib.ListN.{length, getD, take, drop, set, replicate}
 use Rattle.word.specs.Word.{unpacked, packed}
-use Rattle.settings.specs.Names.{Verb, Write, Read, Other, Settings, Connection, Home, Version, Linked, Unlinked, Value, String, Factory, Nowhere, Row, Takes, Count, Fault, Stored, Outcome}
+use Rattle.settings.specs.Names.{Verb, Write, Read, Other, Settings, Calling, Connection, Home, Version, Linked, Unlinked, Value, String, Power, Signal, Factory, Nowhere, Row, Takes, Count, Fault, Stored, Outcome}
 use Rattle.settings.specs.Names.takes
 use Rattle.settings.specs.Names.fault
-use Rattle.settings.specs.Table.{inRange, row, isConnection, takenBy, factory, soundStandIn}
+use Rattle.settings.specs.Table.{inRange, row, isConnection, takenBy, factory, factoryCalling, soundStandIn}
 
 -- The first error that applies.
 
@@ -72,13 +72,17 @@ numberOf fault.Range = 5
 
 -- What a write stores.
 
--- the connection is not written
-abbrev pub kept : Settings → Connection → Stored
-kept s c = record { settings = s; connection = c; connected = false }
+-- no connection is written, and what was heard stays
+abbrev pub kept : Settings → Calling → Connection → Stored
+kept s k c = record { settings = s; connection = c; connected = false; calling = k; forgets = false }
 
--- it is written
-abbrev pub joined : Settings → Connection → Stored
-joined s c = record { settings = s; connection = c; connected = true }
+-- a connection is written, and the motor goes off
+abbrev pub joined : Settings → Calling → Connection → Stored
+joined s k c = record { settings = s; connection = c; connected = true; calling = k; forgets = true }
+
+-- how a station is called is written, and the motor goes off
+abbrev pub recalled : Settings → Calling → Connection → Stored
+recalled s k c = record { settings = s; connection = c; connected = false; calling = k; forgets = true }
 
 -- one option changed
 abbrev pub withValue : Settings → ℕ → ℕ → Settings
@@ -88,49 +92,62 @@ withValue s place x = record { values = set (s .values) place x; string = s .str
 abbrev pub withString : Settings → ℕ → Settings
 withString s x = record { values = s .values; string = x }
 
+-- the motor power mode changed
+abbrev pub withPower : Calling → ℕ → Calling
+withPower k x = record { strings = k .strings; power = x }
+
+-- one string of 91 to 95 changed
+abbrev pub withSignal : Calling → ℕ → ℕ → Calling
+withSignal k place x = record { strings = set (k .strings) place x; power = k .power }
+
 -- a connection
 abbrev pub link : ℕ → ℕ → ℕ → Connection
 link mode port speed = record { mode = mode; port = port; speed = speed }
 
--- the values of an id of this number go where it has its home: a connection, a setting, or all settings to factory
-abbrev pub store : Settings → Connection → Home → ℕ → List ℕ → Stored
-store s c Version n ps = kept s c
-store s c (Linked last) n ps = joined s (link n (getD ps 0 0) (getD ps 1 0))
-store s c Unlinked n ps = joined s (link n 0 0)
-store s c (Value place low high) n ps = kept (withValue s place (getD ps 0 0)) c
-store s c String n ps = kept (withString s (packed (take 8 ps))) c
-store s c Factory n ps = kept factory c
-store s c Nowhere n ps = kept s c
+-- the values of an id of this number go where it has its home: a connection, a setting, how a station is called, or settings and calling to
+-- factory
+abbrev pub store : Settings → Calling → Connection → Home → ℕ → List ℕ → Stored
+store s k c Version n ps = kept s k c
+store s k c (Linked last) n ps = joined s k (link n (getD ps 0 0) (getD ps 1 0))
+store s k c Unlinked n ps = joined s k (link n 0 0)
+store s k c (Value place low high) n ps = kept (withValue s place (getD ps 0 0)) k c
+store s k c String n ps = kept (withString s (packed (take 8 ps))) k c
+store s k c Power n ps = recalled s (withPower k (getD ps 0 0)) c
+store s k c (Signal place) n ps = recalled s (withSignal k place (packed (take 8 ps))) c
+store s k c Factory n ps = recalled factory factoryCalling c
+store s k c Nowhere n ps = kept s k c
 
 -- only a write stores
-abbrev pub obey : Settings → Connection → Verb → Row → List ℕ → Stored
-obey s c Write r ps = store s c (r .home) (r .number) ps
-obey s c Read r ps = kept s c
-obey s c Other r ps = kept s c
+abbrev pub obey : Settings → Calling → Connection → Verb → Row → List ℕ → Stored
+obey s k c Write r ps = store s k c (r .home) (r .number) ps
+obey s k c Read r ps = kept s k c
+obey s k c Other r ps = kept s k c
 
 -- The answer: id, count, values as stored.
 
 -- the values of an id
-abbrev pub valuesAt : Settings → Connection → Home → List ℕ
-valuesAt s c Version = 0 ∷ 0 ∷ 1 ∷ 0 ∷ []
-valuesAt s c (Linked last) = c .port ∷ c .speed ∷ []
-valuesAt s c Unlinked = []
-valuesAt s c (Value place low high) = getD (s .values) place 0 ∷ []
-valuesAt s c String = unpacked (s .string)
-valuesAt s c Factory = []
-valuesAt s c Nowhere = []
+abbrev pub valuesAt : Settings → Calling → Connection → Home → List ℕ
+valuesAt s k c Version = 0 ∷ 0 ∷ 1 ∷ 0 ∷ []
+valuesAt s k c (Linked last) = c .port ∷ c .speed ∷ []
+valuesAt s k c Unlinked = []
+valuesAt s k c (Value place low high) = getD (s .values) place 0 ∷ []
+valuesAt s k c String = unpacked (s .string)
+valuesAt s k c Power = k .power ∷ []
+valuesAt s k c (Signal place) = unpacked (getD (k .strings) place 0)
+valuesAt s k c Factory = []
+valuesAt s k c Nowhere = []
 
 -- the connection answers under its mode's own id
 abbrev pub answering : Connection → Row → Row
 answering c r = cond (isConnection (r .home)) (row (c .mode)) r
 
 -- the id, how many values it has, and the values
-abbrev pub numbersAt : Settings → Connection → Row → List ℕ
-numbersAt s c r = r .number ∷ length (valuesAt s c (r .home)) ∷ valuesAt s c (r .home)
+abbrev pub numbersAt : Settings → Calling → Connection → Row → List ℕ
+numbersAt s k c r = r .number ∷ length (valuesAt s k c (r .home)) ∷ valuesAt s k c (r .home)
 
 -- what a command answers once it is obeyed
 abbrev pub reading : Stored → Row → List ℕ
-reading t r = numbersAt (t .settings) (t .connection) (answering (t .connection) r)
+reading t r = numbersAt (t .settings) (t .calling) (t .connection) (answering (t .connection) r)
 
 -- The whole command.
 
@@ -139,26 +156,26 @@ abbrev pub outcome : Stored → List ℕ → Outcome
 outcome t ns = record { stored = t; numbers = ns ++ replicate (10 - length ns) 0; count = length ns }
 
 -- without error
-abbrev pub succeeded : Settings → Connection → Verb → Row → List ℕ → Outcome
-succeeded s c v r fields = outcome (obey s c v r (drop 2 fields)) (reading (obey s c v r (drop 2 fields)) r)
+abbrev pub succeeded : Settings → Calling → Connection → Verb → Row → List ℕ → Outcome
+succeeded s k c v r fields = outcome (obey s k c v r (drop 2 fields)) (reading (obey s k c v r (drop 2 fields)) r)
 
 -- an error changes nothing, and answers 255,2,id,n
-abbrev pub refused : Settings → Connection → ℕ → Fault → Outcome
-refused s c id f = outcome (kept s c) (255 ∷ 2 ∷ id ∷ numberOf f ∷ [])
+abbrev pub refused : Settings → Calling → Connection → ℕ → Fault → Outcome
+refused s k c id f = outcome (kept s k c) (255 ∷ 2 ∷ id ∷ numberOf f ∷ [])
 
 -- by what is wrong
-abbrev pub answered : Fault → Settings → Connection → Verb → Row → List ℕ → Outcome
-answered fault.Nothing s c v r fields = succeeded s c v r fields
-answered fault.Type s c v r fields = refused s c (getD fields 0 0) fault.Type
-answered fault.Id s c v r fields = refused s c (getD fields 0 0) fault.Id
-answered fault.Parameters s c v r fields = refused s c (getD fields 0 0) fault.Parameters
-answered fault.Checksum s c v r fields = refused s c (getD fields 0 0) fault.Checksum
-answered fault.Range s c v r fields = refused s c (getD fields 0 0) fault.Range
+abbrev pub answered : Fault → Settings → Calling → Connection → Verb → Row → List ℕ → Outcome
+answered fault.Nothing s k c v r fields = succeeded s k c v r fields
+answered fault.Type s k c v r fields = refused s k c (getD fields 0 0) fault.Type
+answered fault.Id s k c v r fields = refused s k c (getD fields 0 0) fault.Id
+answered fault.Parameters s k c v r fields = refused s k c (getD fields 0 0) fault.Parameters
+answered fault.Checksum s k c v r fields = refused s k c (getD fields 0 0) fault.Checksum
+answered fault.Range s k c v r fields = refused s k c (getD fields 0 0) fault.Range
 
 -- what is wrong with a command of `count` fields, of which the first is the id
-abbrev pub wrong : Settings → Connection → Verb → ℕ → List ℕ → Fault
-wrong s c v count fields = let r = row (getD fields 0 0) in jointly (faultOf v r count fields) (together v (obey s c v r (drop 2 fields) .settings))
+abbrev pub wrong : Settings → Calling → Connection → Verb → ℕ → List ℕ → Fault
+wrong s k c v count fields = let r = row (getD fields 0 0) in jointly (faultOf v r count fields) (together v (obey s k c v r (drop 2 fields) .settings))
 
 -- a finished command
-unfoldable pub commanded : Settings → Connection → Verb → ℕ → List ℕ → Outcome
-commanded s c v count fields = answered (wrong s c v count fields) s c v (row (getD fields 0 0)) fields
+unfoldable pub commanded : Settings → Calling → Connection → Verb → ℕ → List ℕ → Outcome
+commanded s k c v count fields = answered (wrong s k c v count fields) s k c v (row (getD fields 0 0)) fields

@@ -4,9 +4,10 @@ pub use Rattle.code.specs.declared.Conversion.the-variants.{Nothing, Free, Case
 pub use Rattle.command.specs.declared.Verb.{Verb}
 pub use Rattle.command.specs.declared.Verb.the-variants.{Write, Read, Other}
 pub use Rattle.settings.specs.declared.Settings.{Settings}
+pub use Rattle.settings.specs.declared.Calling.{Calling}
 pub use Rattle.settings.specs.declared.Connection.{Connection}
 pub use Rattle.settings.specs.declared.Home.{Home}
-pub use Rattle.settings.specs.declared.Home.the-variants.{Version, Linked, Unlinked, Value, String, Factory, Nowhere}
+pub use Rattle.settings.specs.declared.Home.the-variants.{Version, Linked, Unlinked, Value, String, Power, Signal, Factory, Nowhere}
 pub use Rattle.settings.specs.declared.Row.{Row}
 pub use Rattle.settings.specs.declared.Takes.{Takes}
 pub use Rattle.settings.specs.declared.Takes.the-variants.{Count}

@@ -3,10 +3,10 @@ use Prim.Native.Nat.{ℕ, zero, suc}
 use mathlib.Core.Bool.{Bool, true, false, cond, _&&_, _||_}
 use mathlib.Core.List.{List, [], _∷_}
 use lib.Dec.{eqb, leb}
-use lib.ListN.{getD, take}
+use lib.ListN.{length, getD, take}
 use Rattle.code.specs.Convert.{conversion}
 use Rattle.word.specs.Word.{allBelow, unpacked, packed, isWord}
-use Rattle.settings.specs.Names.{Conversion, Nothing, Free, Cased, Verb, Write, Read, Other, Settings, Connection, Home, Version, Linked, Unlinked, Value, String, Factory, Nowhere, Row, Takes, Count}
+use Rattle.settings.specs.Names.{Conversion, Nothing, Free, Cased, Verb, Write, Read, Other, Settings, Calling, Connection, Home, Version, Linked, Unlinked, Value, String, Power, Signal, Factory, Nowhere, Row, Takes, Count}
 use Rattle.settings.specs.Names.takes
 
 -- Ranges of the parameters.
@@ -18,6 +18,10 @@ between low high n = leb low n && leb n high
 -- 60, 66, 75 or 100 words a minute
 abbrev pub isSpeed : ℕ → Bool
 isSpeed n = eqb n 60 || (eqb n 66 || (eqb n 75 || eqb n 100))
+
+-- the motor power mode: 0, 2, or 4 to 6
+abbrev pub isPower : ℕ → Bool
+isPower n = eqb n 0 || (eqb n 2 || between 4 6 n)
 
 -- codes are 0 to 31
 abbrev pub allCodes : List ℕ → Bool
@@ -46,6 +50,10 @@ opens (c ∷ cs) = eqb c 8 || (early c && opens cs)
 unfoldable pub soundString : List ℕ → Bool
 soundString cs = allCodes cs && (padded cs && opens cs)
 
+-- the rules of strings 91 to 95
+unfoldable pub soundSignal : List ℕ → Bool
+soundSignal cs = allCodes cs && padded cs
+
 -- the parameters of an id are in its range; a port counts from 1
 abbrev pub inRange : Home → List ℕ → Bool
 inRange Version ps = true
@@ -53,6 +61,8 @@ inRange (Linked last) ps = between 1 last (getD ps 0 0) && isSpeed (getD ps 1 0)
 inRange Unlinked ps = true
 inRange (Value place low high) ps = between low high (getD ps 0 0)
 inRange String ps = soundString (take 8 ps)
+inRange Power ps = isPower (getD ps 0 0)
+inRange (Signal place) ps = soundSignal (take 8 ps)
 inRange Factory ps = true
 inRange Nowhere ps = true
 
@@ -102,7 +112,13 @@ others =
     ∷ is 4 (Linked 3) true false
     ∷ is 10 Unlinked true false
     ∷ is 11 Unlinked true false
+    ∷ is 53 Power true true
     ∷ is 90 String true true
+    ∷ is 91 (Signal 0) true true
+    ∷ is 92 (Signal 1) true true
+    ∷ is 93 (Signal 2) true true
+    ∷ is 94 (Signal 3) true true
+    ∷ is 95 (Signal 4) true true
     ∷ is 250 Factory true false
     ∷ []
 
@@ -131,6 +147,8 @@ isConnection (Linked last) = true
 isConnection Unlinked = true
 isConnection (Value place low high) = false
 isConnection String = false
+isConnection Power = false
+isConnection (Signal place) = false
 isConnection Factory = false
 isConnection Nowhere = false
 
@@ -141,6 +159,8 @@ width (Linked last) = 2
 width Unlinked = 0
 width (Value place low high) = 1
 width String = 8
+width Power = 1
+width (Signal place) = 8
 width Factory = 0
 width Nowhere = 0
 
@@ -166,7 +186,20 @@ factoryValues (x ∷ xs) = x .factory ∷ factoryValues xs
 abbrev pub factory : Settings
 factory = record { values = factoryValues options; string = packed (8 ∷ 8 ∷ 2 ∷ 31 ∷ 31 ∷ 0 ∷ 0 ∷ 0 ∷ []) }
 
--- Sound: every setting and the connection in the table's ranges, string 90 by its rules.
+-- strings 91 to 95; the motor power mode is 0
+abbrev pub factoryCalling : Calling
+factoryCalling = record {
+  strings =
+      packed (4 ∷ 4 ∷ 4 ∷ 4 ∷ 4 ∷ 8 ∷ 8 ∷ 2 ∷ [])
+      ∷ packed (2 ∷ 12 ∷ 12 ∷ 12 ∷ 12 ∷ 0 ∷ 0 ∷ 0 ∷ [])
+      ∷ packed (4 ∷ 4 ∷ 4 ∷ 4 ∷ 4 ∷ 8 ∷ 8 ∷ 2 ∷ [])
+      ∷ packed (16 ∷ 16 ∷ 21 ∷ 14 ∷ 24 ∷ 12 ∷ 12 ∷ 0 ∷ [])
+      ∷ packed (17 ∷ 14 ∷ 17 ∷ 14 ∷ 0 ∷ 0 ∷ 0 ∷ 0 ∷ [])
+      ∷ [];
+  power = 0;
+}
+
+-- Sound: every setting, the motor power mode and the connection in the table's ranges, the strings by their rules.
 
 -- a value for each option, in its range
 abbrev pub allIn : List Option → List ℕ → Bool
@@ -193,6 +226,19 @@ soundStandIn s = isStandIn (valueOf s 77)
 unfoldable pub soundSettings : Settings → Bool
 soundSettings s = allIn options (s .values) && (soundStandIn s && (isWord (s .string) && soundString (unpacked (s .string))))
 
+-- a word whose eight codes end at the first 0
+unfoldable pub isSignal : ℕ → Bool
+isSignal n = isWord n && padded (unpacked n)
+
+-- each is
+abbrev pub allSignals : List ℕ → Bool
+allSignals [] = true
+allSignals (n ∷ ns) = isSignal n && allSignals ns
+
+-- the motor power mode in its range, and five such strings
+unfoldable pub soundCalling : Calling → Bool
+soundCalling k = isPower (k .power) && (eqb (length (k .strings)) 5 && allSignals (k .strings))
+
 -- port and speed are in the mode's range, and 0 where it has none
 abbrev pub soundLink : Home → ℕ → ℕ → Bool
 soundLink Version port speed = false
@@ -200,6 +246,8 @@ soundLink (Linked last) port speed = between 1 last port && isSpeed speed
 soundLink Unlinked port speed = eqb port 0 && eqb speed 0
 soundLink (Value place low high) port speed = false
 soundLink String port speed = false
+soundLink Power port speed = false
+soundLink (Signal place) port speed = false
 soundLink Factory port speed = false
 soundLink Nowhere port speed = false
 

@@ -2,7 +2,9 @@
 ghost use mathlib.Core.Path.{_≡_};
 ghost use mathlib.Core.List.{[], _∷_};
 ghost use lib.ListN.{getD};
+ghost use Rattle.word.specs.Word.{unpacked};
 ghost use Rattle.settings.specs.Command.{answering, numbersAt, reading, outcome};
+use crate::Calling;
 use crate::Connection;
 use crate::Home;
 use crate::Outcome;
@@ -76,6 +78,28 @@ fn value_at(s: Settings, place: u8) -> u8
     if i < values.len() { values[i] } else { 0 }
 }
 
+// The word of the string at a place.
+fn string_at(k: Calling, place: u8) -> u64
+    ensures { λ r. ⌜ r ≡ getD (k .strings) place 0 ⌝ }
+{
+    let strings = k.strings;
+    match place {
+        0 => strings[0],
+        1 => strings[1],
+        2 => strings[2],
+        3 => strings[3],
+        4 => strings[4],
+        _ => 0,
+    }
+}
+
+// The codes of the string at a place.
+fn codes_at(k: Calling, place: u8) -> [u8; 8]
+    ensures { λ r. ⌜ r ≡ unpacked (getD (k .strings) place 0) ⌝ }
+{
+    word::unpack(string_at(k, place))
+}
+
 // The row that answers: the connection answers under its mode's own id.
 fn answering(c: Connection, r: Row) -> Row
     ensures { λ q. ⌜ q ≡ answering c r ⌝ }
@@ -86,9 +110,10 @@ fn answering(c: Connection, r: Row) -> Row
 
 // The values of a row.
 fn tell(stored: Stored, r: Row) -> Outcome
-    ensures { λ q. ⌜ q ≡ outcome stored (numbersAt (stored .settings) (stored .connection) r) ⌝ }
+    ensures { λ q. ⌜ q ≡ outcome stored (numbersAt (stored .settings) (stored .calling) (stored .connection) r) ⌝ }
 {
     let s = stored.settings;
+    let k = stored.calling;
     let c = stored.connection;
     let id = r.number;
     let home = r.home;
@@ -99,6 +124,8 @@ fn tell(stored: Stored, r: Row) -> Outcome
         Home::Unlinked => none(stored, id),
         Home::Value(place, _, _) => one(stored, id, value_at(s, place)),
         Home::String => eight(stored, id, word::unpack(string)),
+        Home::Power => one(stored, id, k.power),
+        Home::Signal(place) => eight(stored, id, codes_at(k, place)),
         Home::Factory => none(stored, id),
         Home::Nowhere => none(stored, id),
     }

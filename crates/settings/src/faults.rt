@@ -3,7 +3,7 @@ ghost use mathlib.Core.Path.{_≡_};
 ghost use Prim.Native.Nat.{_%_};
 ghost use lib.ListN.{getD, take, drop};
 ghost use Rattle.settings.specs.Command.{sum, checked, fitting, ranged, faultIn, faultOf, together, jointly, numberOf, obey};
-ghost use Rattle.settings.specs.Names.{Connection as Names·Connection};
+ghost use Rattle.settings.specs.Names.{Calling as Names·Calling, Connection as Names·Connection};
 use crate::Fault;
 use crate::Row;
 use crate::Settings;
@@ -40,7 +40,10 @@ fn is_checked(n: u8, count: u8, fields: [u8; 11]) -> bool
     ensures { λ r. ⌜ r ≡ checked n count fields ⌝ }
 {
     let k = n as usize + 2;
-    (count as usize == k) | (checksum(fields, k) == field_at(fields, k))
+    if count as usize == k {
+        return true;
+    }
+    checksum(fields, k) == field_at(fields, k)
 }
 
 // Whether the number field is n, and the parameters are that many or one more.
@@ -117,7 +120,7 @@ pub fn fault_of(v: Verb, r: Row, count: u8, fields: [u8; 11]) -> Fault
 
 // Whether what a command would store goes together.
 pub fn goes_together(s: Settings, v: Verb, r: Row, ps: [u8; 9]) -> bool
-    ensures { λ q. ⌜ ((c : Names·Connection) → q ≡ together v (obey s c v r ps .settings)) ⌝ }
+    ensures { λ q. ⌜ ((k : Names·Calling) (c : Names·Connection) → q ≡ together v (obey s k c v r ps .settings)) ⌝ }
 {
     let home = r.home;
     match v {

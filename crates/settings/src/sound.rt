@@ -1,16 +1,19 @@
-// Which settings and connections are sound.
+// Which settings, ways of calling and connections are sound.
 ghost use mathlib.Core.Path.{_≡_};
 ghost use mathlib.Core.List.{_∷_};
 ghost use lib.ListN.{replicate};
 ghost use Rattle.code.specs.Convert.{conversion};
-ghost use Rattle.settings.specs.Table.{inRange, row, options, allIn, hasCode, isStandIn, soundStandIn, soundSettings, soundLink, soundConnection};
+ghost use Rattle.settings.specs.Table.{inRange, row, options, allIn, hasCode, isStandIn, soundStandIn, soundSettings, allSignals, soundCalling, soundLink, soundConnection};
+use crate::Calling;
 use crate::Connection;
 use crate::Home;
 use crate::Settings;
 use crate::string::is_ending;
+use crate::string::is_signal;
 use crate::table::in_range;
 use crate::table::is_between;
 use crate::table::is_link;
+use crate::table::is_power;
 use crate::table::row;
 use code::Conversion;
 
@@ -77,6 +80,23 @@ pub fn settings_sound(s: Settings) -> bool
     values_sound(s) & (stand_in_sound(s) & is_ending(string))
 }
 
+// Whether each of strings 91 to 95 is a word whose codes end at the first 0.
+fn all_signals(ns: [u64; 5]) -> bool
+    ensures { λ r. ⌜ r ≡ allSignals ns ⌝ }
+{
+    let first = is_signal(ns[0]) & is_signal(ns[1]);
+    let second = is_signal(ns[2]) & is_signal(ns[3]);
+    first & (second & is_signal(ns[4]))
+}
+
+// Whether the motor power mode is in its range and the strings obey their rules.
+pub fn calling_sound(k: Calling) -> bool
+    ensures { λ r. ⌜ r ≡ soundCalling k ⌝ }
+{
+    let strings = k.strings;
+    is_power(k.power) & all_signals(strings)
+}
+
 // Whether port and speed are in a mode's range.
 fn link_sound(home: Home, port: u8, speed: u8) -> bool
     ensures { λ r. ⌜ r ≡ soundLink home port speed ⌝ }
@@ -87,6 +107,8 @@ fn link_sound(home: Home, port: u8, speed: u8) -> bool
         Home::Unlinked => (port == 0) & (speed == 0),
         Home::Value(_, _, _) => false,
         Home::String => false,
+        Home::Power => false,
+        Home::Signal(_) => false,
         Home::Factory => false,
         Home::Nowhere => false,
     }

@@ -2,10 +2,12 @@
 ghost use mathlib.Core.Path.{_≡_};
 ghost use Prim.Native.Nat.{ℕ};
 ghost use mathlib.Core.List.{List};
-ghost use lib.ListN.{getD};
-ghost use Rattle.settings.specs.Names.{Connection as Names·Connection};
+ghost use lib.ListN.{getD, take};
+ghost use Rattle.word.specs.Word.{packed};
+ghost use Rattle.settings.specs.Names.{Calling as Names·Calling, Connection as Names·Connection};
 ghost use Rattle.settings.specs.Options.{standIn};
-ghost use Rattle.settings.specs.Command.{kept, joined, withValue, withString, link, store, obey};
+ghost use Rattle.settings.specs.Command.{kept, joined, recalled, withValue, withString, withPower, withSignal, link, store, obey};
+use crate::Calling;
 use crate::Connection;
 use crate::Home;
 use crate::Row;
@@ -36,25 +38,68 @@ impl Settings {
     }
 }
 
-// The connection stays.
-pub fn keep(settings: Settings, connection: Connection) -> Stored
-    ensures { λ r. ⌜ r ≡ kept settings connection ⌝ }
+// How a station is called, with a part of it changed.
+impl Calling {
+    // The motor power mode.
+    fn with_power(mut self, x: u8) -> Calling
+        ensures { λ r. ⌜ r ≡ withPower self x ⌝ }
+    {
+        self.power = x;
+        self
+    }
+
+    // The word of the string at a place.
+    fn with_signal(mut self, place: u8, x: u64) -> Calling
+        ensures { λ r. ⌜ r ≡ withSignal self place x ⌝ }
+    {
+        match place {
+            0 => self.strings[0] = x,
+            1 => self.strings[1] = x,
+            2 => self.strings[2] = x,
+            3 => self.strings[3] = x,
+            4 => self.strings[4] = x,
+            _ => {}
+        }
+        self
+    }
+}
+
+// The connection stays, and what was heard.
+pub fn keep(settings: Settings, calling: Calling, connection: Connection) -> Stored
+    ensures { λ r. ⌜ r ≡ kept settings calling connection ⌝ }
 {
     Stored {
         settings,
         connection,
         connected: false,
+        calling,
+        forgets: false,
     }
 }
 
 // A connection is written.
-fn join(settings: Settings, connection: Connection) -> Stored
-    ensures { λ r. ⌜ r ≡ joined settings connection ⌝ }
+fn join(settings: Settings, calling: Calling, connection: Connection) -> Stored
+    ensures { λ r. ⌜ r ≡ joined settings calling connection ⌝ }
 {
     Stored {
         settings,
         connection,
         connected: true,
+        calling,
+        forgets: true,
+    }
+}
+
+// How a station is called is written.
+fn recall(settings: Settings, calling: Calling, connection: Connection) -> Stored
+    ensures { λ r. ⌜ r ≡ recalled settings calling connection ⌝ }
+{
+    Stored {
+        settings,
+        connection,
+        connected: false,
+        calling,
+        forgets: true,
     }
 }
 
@@ -65,26 +110,35 @@ fn link(mode: u8, port: u8, speed: u8) -> Connection
     Connection { mode, port, speed }
 }
 
+// The word of the first eight parameters.
+fn string_of(ps: [u8; 9]) -> u64
+    ensures { λ r. ⌜ r ≡ packed (take 8 ps) ⌝ }
+{
+    word::pack(first_eight(ps))
+}
+
 // What a write of an id of this number stores.
-fn store(s: Settings, c: Connection, home: Home, n: u8, ps: [u8; 9]) -> Stored
-    ensures { λ r. ⌜ r ≡ store s c home n ps ⌝ }
+fn store(s: Settings, k: Calling, c: Connection, home: Home, n: u8, ps: [u8; 9]) -> Stored
+    ensures { λ r. ⌜ r ≡ store s k c home n ps ⌝ }
 {
     let first = ps[0];
     let second = ps[1];
     match home {
-        Home::Version => keep(s, c),
-        Home::Linked(_) => join(s, link(n, first, second)),
-        Home::Unlinked => join(s, link(n, 0, 0)),
-        Home::Value(place, _, _) => keep(s.with_value(place, first), c),
-        Home::String => keep(s.with_string(word::pack(first_eight(ps))), c),
-        Home::Factory => keep(crate::factory(), c),
-        Home::Nowhere => keep(s, c),
+        Home::Version => keep(s, k, c),
+        Home::Linked(_) => join(s, k, link(n, first, second)),
+        Home::Unlinked => join(s, k, link(n, 0, 0)),
+        Home::Value(place, _, _) => keep(s.with_value(place, first), k, c),
+        Home::String => keep(s.with_string(string_of(ps)), k, c),
+        Home::Power => recall(s, k.with_power(first), c),
+        Home::Signal(place) => recall(s, k.with_signal(place, string_of(ps)), c),
+        Home::Factory => recall(crate::factory(), crate::factory_calling(), c),
+        Home::Nowhere => keep(s, k, c),
     }
 }
 
 // What option 77, whose place is 6, is once a write is stored: the first parameter where that is its place, 0 where all settings go to factory.
 pub fn stored_stand_in(s: Settings, home: Home, first: u8) -> u8
-    ensures { λ r. ⌜ ((c : Names·Connection) (n : ℕ) (ps : List ℕ) → first ≡ getD ps 0 0 → r ≡ standIn (store s c home n ps .settings)) ⌝ }
+    ensures { λ r. ⌜ ((k : Names·Calling) (c : Names·Connection) (n : ℕ) (ps : List ℕ) → first ≡ getD ps 0 0 → r ≡ standIn (store s k c home n ps .settings)) ⌝ }
 {
     let now = s.stand_in();
     match home {
@@ -93,19 +147,21 @@ pub fn stored_stand_in(s: Settings, home: Home, first: u8) -> u8
         Home::Unlinked => now,
         Home::Value(place, _, _) => { if place == 6 { first } else { now } }
         Home::String => now,
+        Home::Power => now,
+        Home::Signal(_) => now,
         Home::Factory => 0,
         Home::Nowhere => now,
     }
 }
 
 // What a command without error stores.
-pub fn obey(s: Settings, c: Connection, v: Verb, r: Row, ps: [u8; 9]) -> Stored
-    ensures { λ q. ⌜ q ≡ obey s c v r ps ⌝ }
+pub fn obey(s: Settings, k: Calling, c: Connection, v: Verb, r: Row, ps: [u8; 9]) -> Stored
+    ensures { λ q. ⌜ q ≡ obey s k c v r ps ⌝ }
 {
     let home = r.home;
     match v {
-        Verb::Write => store(s, c, home, r.number, ps),
-        Verb::Read => keep(s, c),
-        Verb::Other => keep(s, c),
+        Verb::Write => store(s, k, c, home, r.number, ps),
+        Verb::Read => keep(s, k, c),
+        Verb::Other => keep(s, k, c),
     }
 }

@@ -1,9 +1,9 @@
-// The rules of string 90.
+// The rules of strings 90 to 95.
 ghost use mathlib.Core.Path.{_≡_};
 ghost use mathlib.Core.Bool.{_&&_};
 ghost use Prim.Native.Nat.{_<_};
 ghost use Rattle.word.specs.Word.{unpacked, isWord};
-ghost use Rattle.settings.specs.Table.{allCodes, padded, early, opens, soundString};
+ghost use Rattle.settings.specs.Table.{allCodes, padded, early, opens, soundString, soundSignal, isSignal};
 
 // Whether all are codes.
 fn all_codes(s: [u8; 8]) -> bool
@@ -50,17 +50,27 @@ fn opens(n: u64) -> bool
     rest % 32 == 8
 }
 
-// Whether a number is a word whose codes end at the first 0 and open as a line ending does.
-pub fn is_ending(n: u64) -> bool
-    ensures { λ r. ⌜ r ≡ (isWord n && (padded (unpacked n) && opens (unpacked n))) ⌝ }
+// Whether a number is a word whose codes end at the first 0.
+pub fn is_signal(n: u64) -> bool
+    ensures { λ r. ⌜ r ≡ isSignal n ⌝ }
 {
     if !word::is_word(n) {
         return false;
     }
-    padded(n) & opens(n)
+    padded(n)
 }
 
-// Whether eight numbers are codes that obey the rules.
+// Whether a number is a word whose codes end at the first 0 and open as a line ending does.
+pub fn is_ending(n: u64) -> bool
+    ensures { λ r. ⌜ r ≡ (isWord n && (padded (unpacked n) && opens (unpacked n))) ⌝ }
+{
+    if !is_signal(n) {
+        return false;
+    }
+    opens(n)
+}
+
+// Whether eight numbers are codes that obey the rules of string 90.
 pub fn sound_string(s: [u8; 8]) -> bool
     ensures { λ r. ⌜ r ≡ soundString s ⌝ }
 {
@@ -68,4 +78,14 @@ pub fn sound_string(s: [u8; 8]) -> bool
         return false;
     }
     is_ending(word::pack(s))
+}
+
+// Whether eight numbers are codes that obey the rules of strings 91 to 95.
+pub fn sound_signal(s: [u8; 8]) -> bool
+    ensures { λ r. ⌜ r ≡ soundSignal s ⌝ }
+{
+    if !all_codes(s) {
+        return false;
+    }
+    is_signal(word::pack(s))
 }

@@ -3,11 +3,12 @@ ghost use mathlib.Core.Path.{_≡_};
 ghost use mathlib.Core.Bool.{true};
 ghost use mathlib.Core.List.{[], _∷_};
 ghost use lib.ListN.{take};
-ghost use Rattle.settings.specs.Names.{Linked, Value};
-ghost use Rattle.settings.specs.Table.{between, isSpeed, inRange, row, isConnection, width, takesIf, takenBy};
+ghost use Rattle.settings.specs.Names.{Linked, Value, Signal};
+ghost use Rattle.settings.specs.Table.{between, isSpeed, isPower, inRange, row, isConnection, width, takesIf, takenBy};
 use crate::Home;
 use crate::Row;
 use crate::Takes;
+use crate::string::sound_signal;
 use crate::string::sound_string;
 use command::Verb;
 
@@ -30,6 +31,13 @@ fn option(number: u8, place: u8, low: u8, high: u8) -> Row
     is(number, Home::Value(place, low, high), true, true)
 }
 
+// A string of 91 to 95, which can be written and read: its id and its place.
+fn signal(number: u8, place: u8) -> Row
+    ensures { λ r. ⌜ r ≡ record { number = number; home = Signal place; written = true; read = true } ⌝ }
+{
+    is(number, Home::Signal(place), true, true)
+}
+
 // The row of an id.
 pub fn row(id: u8) -> Row
     ensures { λ r. ⌜ r ≡ row id ⌝ }
@@ -42,12 +50,18 @@ pub fn row(id: u8) -> Row
         11 => is(11, Home::Unlinked, true, false),
         49 => option(49, 0, 0, 1),
         50 => option(50, 1, 10, 80),
+        53 => is(53, Home::Power, true, true),
         70 => option(70, 2, 0, 1),
         71 => option(71, 3, 0, 1),
         72 => option(72, 4, 0, 1),
         74 => option(74, 5, 0, 1),
         77 => option(77, 6, 0, 126),
         90 => is(90, Home::String, true, true),
+        91 => signal(91, 0),
+        92 => signal(92, 1),
+        93 => signal(93, 2),
+        94 => signal(94, 3),
+        95 => signal(95, 4),
         250 => is(250, Home::Factory, true, false),
         _ => is(0, Home::Nowhere, false, false),
     }
@@ -63,6 +77,8 @@ pub fn is_connection(home: Home) -> bool
         Home::Unlinked => true,
         Home::Value(_, _, _) => false,
         Home::String => false,
+        Home::Power => false,
+        Home::Signal(_) => false,
         Home::Factory => false,
         Home::Nowhere => false,
     }
@@ -78,6 +94,8 @@ pub fn width(home: Home) -> u8
         Home::Unlinked => 0,
         Home::Value(_, _, _) => 1,
         Home::String => 8,
+        Home::Power => 1,
+        Home::Signal(_) => 8,
         Home::Factory => 0,
         Home::Nowhere => 0,
     }
@@ -116,6 +134,13 @@ fn is_speed(n: u8) -> bool
     (n == 60) | ((n == 66) | ((n == 75) | (n == 100)))
 }
 
+// Whether a number is a motor power mode.
+pub fn is_power(n: u8) -> bool
+    ensures { λ r. ⌜ r ≡ isPower n ⌝ }
+{
+    (n == 0) | ((n == 2) | ((4 <= n) & (n <= 6)))
+}
+
 // Whether two numbers are a port, from 1 to the last, and a speed.
 pub fn is_link(last: u8, port: u8, speed: u8) -> bool
     ensures { λ r. ⌜ r ≡ inRange (Linked last) (port ∷ speed ∷ []) ⌝ }
@@ -142,6 +167,8 @@ pub fn in_range(home: Home, ps: [u8; 9]) -> bool
         Home::Unlinked => true,
         Home::Value(_, low, high) => is_between(low, high, first),
         Home::String => sound_string(first_eight(ps)),
+        Home::Power => is_power(first),
+        Home::Signal(_) => sound_signal(first_eight(ps)),
         Home::Factory => true,
         Home::Nowhere => true,
     }

@@ -1,4 +1,4 @@
--- `settings::is_sound` meets its contract: its two parts are those of the promise.
+-- `settings::is_sound` meets its contract: its three parts are those of the promise.
 -- Assumes nothing.
 use borrow.Author.Needs.{needs}
 use Rattle.settings.proofs.is_sound.Statement.{statement}
@@ -10,8 +10,17 @@ settings-sound-requires c κs = search needs
 connection-sound-requires : tie.Need-connection-sound-requires
 connection-sound-requires c κs = search needs
 
+calling-sound-requires : tie.Need-calling-sound-requires
+calling-sound-requires c κs = search needs
+
 returns : tie.Need-returns
-returns c = simp (c .before .settings-sound .ensures, c .connection-sound .ensures)
+returns c = simp (c .before .before .settings-sound .ensures, c .before .connection-sound .ensures, c .calling-sound .ensures)
 
 pub is-sound-spec : {M : Type 1} → statement M
-is-sound-spec = tie.close (tie.spec settings-sound-requires connection-sound-requires returns)
+is-sound-spec =
+    tie.close
+    (tie.spec
+    settings-sound-requires
+    connection-sound-requires
+    calling-sound-requires
+    returns)

@@ -34,20 +34,20 @@ succeed-requires : tie.Need-succeed-requires
 succeed-requires c κs = search needs
 
 -- the two tests find what is wrong
-found : (g : tie.After-jointly) → let a = g .before .before .before .before .before .args in g .jointly .result ≡ wrong (a .s) (a .c) (a .v) (a .count) (a .t5)
+found : (g : tie.After-jointly) → let a = g .before .before .before .before .before .args in g .jointly .result ≡ wrong (a .s) (a .k) (a .c) (a .v) (a .count) (a .t6)
 found g =
     let f = g .before in
     let t = f .before in
     let p = t .before in
     let r = p .before .row .ensures in
-    rw (f .fault-of .ensures, t .goes-together .ensures (p .before .before .args .c), p .parameters .ensures, r) at (g .jointly .ensures)
+    rw (f .fault-of .ensures, t .goes-together .ensures (p .before .before .args .k) (p .before .before .args .c), p .parameters .ensures, r) at (g .jointly .ensures)
 
 returns : tie.Need-returns
 returns c =
     let g = c .before .before .before in
     let p = g .before .before .before in
     let a = p .before .before .args in
-    rw (c .succeed .ensures, p .before .row .ensures, success (a .s) (a .c) (a .v) (a .count) (a .t5) (sym (found g) ∙ c .before .enum-told .given .1))
+    rw (c .succeed .ensures, p .before .row .ensures, success (a .s) (a .k) (a .c) (a .v) (a .count) (a .t6) (sym (found g) ∙ c .before .enum-told .given .1))
 
 refuse-requires : tie.Need-refuse-requires
 refuse-requires c κs = search needs
@@ -56,7 +56,7 @@ returns-2 : tie.Need-returns-2
 returns-2 c =
     let g = c .before .before in
     let a = g .before .before .before .before .before .args in
-    c .refuse .ensures ∙ sym (refusal (a .s) (a .c) (a .v) (a .count) (a .t5) (g .jointly .result) (sym (found g)) (λ z. miss (1 ∷ 2 ∷ 3 ∷ 4 ∷ 5 ∷ []) 0 tt (rw z at (c .before .match .keys2))))
+    rw (c .refuse .ensures, refusal (a .s) (a .k) (a .c) (a .v) (a .count) (a .t6) (g .jointly .result) (sym (found g)) (λ z. miss (1 ∷ 2 ∷ 3 ∷ 4 ∷ 5 ∷ []) 0 tt (rw z at (c .before .match .keys2))))
 
 pub run-spec : {M : Type 1} → statement M
 run-spec =

@@ -43,11 +43,26 @@ eight-requires c κs = search needs
 enum-told-5 : tie.Need-enum-told-5
 enum-told-5 c = search needs
 
-none-requires-2 : tie.Need-none-requires-2
-none-requires-2 c κs = search needs
+one-requires-2 : tie.Need-one-requires-2
+one-requires-2 c κs = search needs
+
+enum-known-home-2 : tie.Need-enum-known-home-2
+enum-known-home-2 c = search needs
+
+codes-at-requires : tie.Need-codes-at-requires
+codes-at-requires c κs = search needs
+
+eight-requires-2 : tie.Need-eight-requires-2
+eight-requires-2 c κs = search needs
 
 enum-told-6 : tie.Need-enum-told-6
 enum-told-6 c = search needs
+
+none-requires-2 : tie.Need-none-requires-2
+none-requires-2 c κs = search needs
+
+enum-told-7 : tie.Need-enum-told-7
+enum-told-7 c = search needs
 
 none-requires-3 : tie.Need-none-requires-3
 none-requires-3 c κs = search needs
@@ -68,10 +83,16 @@ returns-5 : tie.Need-returns-5
 returns-5 c = simp (c .before .before .enum-told4 .given .1, c .eight .ensures, c .before .unpack .ensures)
 
 returns-6 : tie.Need-returns-6
-returns-6 c = simp (c .before .enum-told5 .given .1, c .none2 .ensures)
+returns-6 c = simp (c .before .enum-told5 .given .1, c .one2 .ensures)
 
 returns-7 : tie.Need-returns-7
-returns-7 c = simp (c .before .enum-told6 .given .1, c .none3 .ensures)
+returns-7 c = simp (c .before .before .before .home2 .given .1, c .eight2 .ensures, c .before .codes-at .ensures)
+
+returns-8 : tie.Need-returns-8
+returns-8 c = simp (c .before .enum-told6 .given .1, c .none2 .ensures)
+
+returns-9 : tie.Need-returns-9
+returns-9 c = simp (c .before .enum-told7 .given .1, c .none3 .ensures)
 
 pub tell-spec : {M : Type 1} → statement M
 tell-spec =
@@ -90,8 +111,13 @@ tell-spec =
     unpack-requires
     eight-requires
     enum-told-5
-    none-requires-2
+    one-requires-2
+    enum-known-home-2
+    codes-at-requires
+    eight-requires-2
     enum-told-6
+    none-requires-2
+    enum-told-7
     none-requires-3
     returns
     returns-2
@@ -99,4 +125,6 @@ tell-spec =
     returns-4
     returns-5
     returns-6
-    returns-7)
+    returns-7
+    returns-8
+    returns-9)

@@ -27,16 +27,16 @@ enum-told-3 c = search needs
 
 returns : tie.Need-returns
 unfolding soundStandIn standIn
-returns c k =
-    let d = c .before in
-    let a = d .before .before .before .args in
-    rw (d .before .enum-told .given .1) (c .is-stand-in .ensures ∙ ap isStandIn (d .stored-stand-in .ensures k (a .r .number) (a .t4) refl))
+returns c k d =
+    let b = c .before in
+    let a = b .before .before .before .args in
+    rw (b .before .enum-told .given .1) (c .is-stand-in .ensures ∙ ap isStandIn (b .stored-stand-in .ensures k d (a .r .number) (a .t4) refl))
 
 returns-2 : tie.Need-returns-2
-returns-2 c k = rw (c .enum-told2 .given .1)
+returns-2 c k d = rw (c .enum-told2 .given .1)
 
 returns-3 : tie.Need-returns-3
-returns-3 c k = rw (c .enum-told3 .given .1)
+returns-3 c k d = rw (c .enum-told3 .given .1)
 
 pub goes-together-spec : {M : Type 1} → statement M
 goes-together-spec =

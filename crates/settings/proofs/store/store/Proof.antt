@@ -46,11 +46,8 @@ keep-requires-2 c κs = search needs
 enum-told-4 : tie.Need-enum-told-4
 enum-told-4 c = search needs
 
-first-eight-requires : tie.Need-first-eight-requires
-first-eight-requires c κs = search needs
-
-pack-requires : tie.Need-pack-requires
-pack-requires c κs = search needs
+string-of-requires : tie.Need-string-of-requires
+string-of-requires c κs = search needs
 
 with-string-requires : tie.Need-with-string-requires
 with-string-requires c κs = search needs
@@ -61,17 +58,41 @@ keep-requires-3 c κs = search needs
 enum-told-5 : tie.Need-enum-told-5
 enum-told-5 c = search needs
 
-factory-requires : tie.Need-factory-requires
-factory-requires c κs = search needs
+with-power-requires : tie.Need-with-power-requires
+with-power-requires c κs = search needs
 
-keep-requires-4 : tie.Need-keep-requires-4
-keep-requires-4 c κs = search needs
+recall-requires : tie.Need-recall-requires
+recall-requires c κs = search needs
+
+enum-known-home-2 : tie.Need-enum-known-home-2
+enum-known-home-2 c = search needs
+
+string-of-requires-2 : tie.Need-string-of-requires-2
+string-of-requires-2 c κs = search needs
+
+with-signal-requires : tie.Need-with-signal-requires
+with-signal-requires c κs = search needs
+
+recall-requires-2 : tie.Need-recall-requires-2
+recall-requires-2 c κs = search needs
 
 enum-told-6 : tie.Need-enum-told-6
 enum-told-6 c = search needs
 
-keep-requires-5 : tie.Need-keep-requires-5
-keep-requires-5 c κs = search needs
+factory-requires : tie.Need-factory-requires
+factory-requires c κs = search needs
+
+factory-calling-requires : tie.Need-factory-calling-requires
+factory-calling-requires c κs = search needs
+
+recall-requires-3 : tie.Need-recall-requires-3
+recall-requires-3 c κs = search needs
+
+enum-told-7 : tie.Need-enum-told-7
+enum-told-7 c = search needs
+
+keep-requires-4 : tie.Need-keep-requires-4
+keep-requires-4 c κs = search needs
 
 returns : tie.Need-returns
 returns c = simp (c .before .enum-told .given .1, c .keep .ensures)
@@ -86,13 +107,19 @@ returns-4 : tie.Need-returns-4
 returns-4 c = simp (c .before .before .before .home .given .1, c .keep2 .ensures, c .before .with-value .ensures)
 
 returns-5 : tie.Need-returns-5
-returns-5 c = simp (c .before .before .before .before .enum-told4 .given .1, c .keep3 .ensures, c .before .with-string .ensures, c .before .before .pack .ensures, c .before .before .before .first-eight .ensures)
+returns-5 c = simp (c .before .before .before .enum-told4 .given .1, c .keep3 .ensures, c .before .with-string .ensures, c .before .before .string-of .ensures)
 
 returns-6 : tie.Need-returns-6
-returns-6 c = simp (c .before .before .enum-told5 .given .1, c .keep4 .ensures, c .before .factory .ensures)
+returns-6 c = simp (c .before .before .enum-told5 .given .1, c .recall .ensures, c .before .with-power .ensures)
 
 returns-7 : tie.Need-returns-7
-returns-7 c = simp (c .before .enum-told6 .given .1, c .keep5 .ensures)
+returns-7 c = simp (c .before .before .before .before .home2 .given .1, c .recall2 .ensures, c .before .with-signal .ensures, c .before .before .string-of2 .ensures)
+
+returns-8 : tie.Need-returns-8
+returns-8 c = simp (c .before .before .before .enum-told6 .given .1, c .recall3 .ensures, c .before .factory-calling .ensures, c .before .before .factory .ensures)
+
+returns-9 : tie.Need-returns-9
+returns-9 c = simp (c .before .enum-told7 .given .1, c .keep4 .ensures)
 
 pub store-spec : {M : Type 1} → statement M
 store-spec =
@@ -112,19 +139,28 @@ store-spec =
     with-value-requires
     keep-requires-2
     enum-told-4
-    first-eight-requires
-    pack-requires
+    string-of-requires
     with-string-requires
     keep-requires-3
     enum-told-5
-    factory-requires
-    keep-requires-4
+    with-power-requires
+    recall-requires
+    enum-known-home-2
+    string-of-requires-2
+    with-signal-requires
+    recall-requires-2
     enum-told-6
-    keep-requires-5
+    factory-requires
+    factory-calling-requires
+    recall-requires-3
+    enum-told-7
+    keep-requires-4
     returns
     returns-2
     returns-3
     returns-4
     returns-5
     returns-6
-    returns-7)
+    returns-7
+    returns-8
+    returns-9)

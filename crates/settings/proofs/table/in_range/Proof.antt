@@ -40,8 +40,23 @@ sound-string-requires c κs = search needs
 enum-told-4 : tie.Need-enum-told-4
 enum-told-4 c = search needs
 
+is-power-requires : tie.Need-is-power-requires
+is-power-requires c κs = search needs
+
 enum-told-5 : tie.Need-enum-told-5
 enum-told-5 c = search needs
+
+first-eight-requires-2 : tie.Need-first-eight-requires-2
+first-eight-requires-2 c κs = search needs
+
+sound-signal-requires : tie.Need-sound-signal-requires
+sound-signal-requires c κs = search needs
+
+enum-told-6 : tie.Need-enum-told-6
+enum-told-6 c = search needs
+
+enum-told-7 : tie.Need-enum-told-7
+enum-told-7 c = search needs
 
 returns : tie.Need-returns
 returns c = search needs
@@ -59,10 +74,16 @@ returns-5 : tie.Need-returns-5
 returns-5 c = simp (c .before .before .enum-told3 .given .1, c .sound-string .ensures, c .before .first-eight .ensures)
 
 returns-6 : tie.Need-returns-6
-returns-6 c = search needs
+returns-6 c = simp (c .before .enum-told4 .given .1, c .is-power .ensures)
 
 returns-7 : tie.Need-returns-7
-returns-7 c = search needs
+returns-7 c = simp (c .before .before .enum-told5 .given .1, c .sound-signal .ensures, c .before .first-eight2 .ensures)
+
+returns-8 : tie.Need-returns-8
+returns-8 c = search needs
+
+returns-9 : tie.Need-returns-9
+returns-9 c = search needs
 
 pub in-range-spec : {M : Type 1} → statement M
 in-range-spec =
@@ -80,11 +101,18 @@ in-range-spec =
     first-eight-requires
     sound-string-requires
     enum-told-4
+    is-power-requires
     enum-told-5
+    first-eight-requires-2
+    sound-signal-requires
+    enum-told-6
+    enum-told-7
     returns
     returns-2
     returns-3
     returns-4
     returns-5
     returns-6
-    returns-7)
+    returns-7
+    returns-8
+    returns-9)
