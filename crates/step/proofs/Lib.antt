@@ -1,5 +1,6 @@
 pub mod Bytes
 pub mod Ways
+pub mod Hearing
 pub mod Sent
 pub mod Answered
 pub mod Stays

@@ -6,7 +6,7 @@ use mathlib.Core.List.{List}
 use Rattle.command.specs.declared.Step.{Step as Read}
 use Rattle.step.specs.Names.{Out, State, Host, Line, Tu, Route, Dropped, ToPrinter, ToHost, ToTu}
 use Rattle.step.specs.Route.{route}
-use Rattle.step.specs.State.{withReader, withSender, withReading, withIncoming}
+use Rattle.step.specs.State.{withReader, withSender, withReading, withIncoming, withMotor}
 use Rattle.step.specs.Step.{text, hosted, lined, lineStep, tued, tuStep}
 
 pub line-as : (s : State) (c : ℕ) (x : Route) → route (s .connection) Line ≡ x → lineStep s c ≡ lined x s c
@@ -30,8 +30,8 @@ lined-touches ToPrinter s c = refl
 lined-touches ToHost s c = refl
 lined-touches ToTu s c = refl
 
--- a TU code the incoming case and the sender
-pub tued-touches : (k : Route) (s : State) (c : ℕ) → tued k s c .state ≡ withSender (withIncoming s (tued k s c .state .incoming)) (tued k s c .state .sender)
+-- a TU code the incoming case, the sender and the motor
+pub tued-touches : (k : Route) (s : State) (c : ℕ) → tued k s c .state ≡ withMotor (withSender (withIncoming s (tued k s c .state .incoming)) (tued k s c .state .sender)) (tued k s c .state .motor)
 tued-touches Dropped s c = refl
 tued-touches ToPrinter s c = refl
 tued-touches ToHost s c = refl

@@ -7,11 +7,13 @@ pub use Rattle.command.specs.declared.Reader.{Reader}
 pub use Rattle.command.specs.declared.Out.{Out}
 pub use Rattle.command.specs.declared.Out.the-variants.{Nothing, One, Two, Finished}
 pub use Rattle.settings.specs.declared.Settings.{Settings}
+pub use Rattle.settings.specs.declared.Calling.{Calling}
 pub use Rattle.settings.specs.declared.Connection.{Connection}
 pub use Rattle.settings.specs.declared.Stored.{Stored}
 pub use Rattle.settings.specs.declared.Outcome.{Outcome}
 pub use Rattle.sender.specs.declared.Wanted.{Wanted}
 pub use Rattle.sender.specs.declared.Sender.{Sender}
+pub use Rattle.motor.specs.declared.Motor.{Motor}
 pub use Rattle.step.specs.declared.State.{State}
 pub use Rattle.step.specs.declared.Stream.{Stream}
 pub use Rattle.step.specs.declared.Stream.the-variants.{Host, Line, Tu}
@@ -21,3 +23,4 @@ pub use Rattle.step.specs.declared.Took.{Took}
 pub use Rattle.step.specs.declared.Taken.{Taken}
 pub use Rattle.sender.specs.declared.Asks.the-variants.{Text, Codes}
 pub use Rattle.sender.specs.declared.Until.the-variants.{Never}
+pub use Rattle.step.specs.declared.Heard.{Heard}

@@ -13,7 +13,8 @@ use Rattle.sender.specs.Reading.{readCase}
 use Rattle.sender.specs.Item.{items, afterItems, wanted, wantedText}
 use Rattle.step.specs.Names.{Case, Kind, Still, Space, Return, Shift, Char, Reader, Out, Nothing, One, Two, Finished, Route, Dropped, ToPrinter, ToHost, ToTu, Settings, Outcome, Wanted, State, Stream, Host, Line, Tu}
 use Rattle.step.specs.Route.{route}
-use Rattle.step.specs.State.{withReader, withSender, withReading, withIncoming, withStored}
+use Rattle.step.specs.State.{withReader, withSender, withReading, withIncoming, withMotor, withStored}
+use Rattle.step.specs.Hear.{motorAfter, toldOf}
 
 pub record Step : Type 0 where
   pub state : State
@@ -25,9 +26,9 @@ pub record Step : Type 0 where
 abbrev pub quiet : State → Step
 quiet s = record { state = s; line = []; host = []; tu = [] }
 
--- items to the line
+-- items to the line, which the motor hears
 abbrev pub sends : State → List Wanted → Step
-sends s ws = record { state = withSender s (afterItems (s .settings) (s .sender) ws); line = items (s .settings) (s .sender) ws; host = []; tu = [] }
+sends s ws = record { state = withMotor (withSender s (afterItems (s .settings) (s .sender) ws)) (motorAfter s ws); line = items (s .settings) (s .sender) ws; host = toldOf s ws; tu = [] }
 
 -- Host bytes.
 
@@ -51,7 +52,7 @@ abbrev pub hosted : State → List ℕ → Out → Step
 hosted s fields Nothing = quiet s
 hosted s fields (One b) = texted s (One b)
 hosted s fields (Two b) = texted s (Two b)
-hosted s fields (Finished v count) = obeys s (commanded (s .settings) (s .connection) v count fields)
+hosted s fields (Finished v count) = obeys s (commanded (s .settings) (s .calling) (s .connection) v count fields)
 
 abbrev pub hostStep : State → ℕ → Step
 hostStep s b = hosted (withReader s (read (s .reader) b .reader)) (s .reader .values) (read (s .reader) b .out)

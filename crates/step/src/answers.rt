@@ -22,14 +22,15 @@ fn make_first(numbers: [u8; 10], n: usize, out: &mut [u8]) -> usize
 
 // A finished command obeyed, and its answer at the front of the host buffer, if all of it fits.
 pub fn put_answer(s: State, v: Verb, count: u8, fields: [u8; 11], out: &mut [u8]) -> Took
-    requires { ⌜ Sound (s .settings) (s .connection) ⌝ }
+    requires { ⌜ Sound (s .settings) (s .calling) (s .connection) ⌝ }
     ensures { λ r. ⌜
-        Puts (obeys s (commanded (s .settings) (s .connection) v count fields) .state) (obeys s (commanded (s .settings) (s .connection) v count fields) .host) (now (out .entry)) (now (out .exit)) r
+        Puts (obeys s (commanded (s .settings) (s .calling) (s .connection) v count fields) .state) (obeys s (commanded (s .settings) (s .calling) (s .connection) v count fields) .host) (now (out .entry)) (now (out .exit)) r
         ⌝ }
 {
     let settings = s.settings;
+    let calling = s.calling;
     let connection = s.connection;
-    let o = settings::run(settings, connection, v, count, fields);
+    let o = settings::run(settings, calling, connection, v, count, fields);
     let stored = o.stored;
     let numbers = o.numbers;
     let n = o.count;

@@ -1,6 +1,7 @@
 // What one byte does: the state after it, and its output in the free parts of the lent buffers.
 
 mod answers;
+pub mod hears;
 pub mod host;
 pub mod line;
 mod puts;
@@ -11,7 +12,9 @@ pub mod states;
 
 use code::Case;
 use command::Reader;
+use motor::Motor;
 use sender::Sender;
+use settings::Calling;
 use settings::Connection;
 use settings::Settings;
 
@@ -31,7 +34,7 @@ pub enum Route {
 }
 
 // All that the box knows. The fields' sizes: settings 15, connection 3, sender 6 (record 4, last item 2), the two cases 2, the
-// command reader 15: 41 bytes.
+// command reader 15, how a station is called 41, the motor 10: 92 bytes.
 pub struct State {
     pub settings: Settings,
     pub connection: Connection,
@@ -39,6 +42,17 @@ pub struct State {
     pub reading: Case,
     pub incoming: Case,
     pub reader: Reader,
+    pub calling: Calling,
+    pub motor: Motor,
+}
+
+// The motor after one byte's items, its port, and whether it was on (1) or off (0) before them, between them and after them.
+pub struct Heard {
+    pub motor: Motor,
+    pub port: u8,
+    pub was: u8,
+    pub between: u8,
+    pub after: u8,
 }
 
 // One byte's output put into one buffer: the state after the byte, how many places were written, and whether all of it fits.

@@ -7,7 +7,7 @@ use code::Case;
 use command::Reader;
 use settings::Connection;
 
-// The box as it is switched on: factory settings, mode 11, nothing held.
+// The box as it is switched on: factory settings, mode 11, nothing held, the motor off.
 pub fn fresh() -> State
     ensures { λ r. ⌜ r ≡ freshBox ⌝ }
 {
@@ -22,6 +22,8 @@ pub fn fresh() -> State
         reading: Case::Letters,
         incoming: Case::Letters,
         reader: Reader::idle(),
+        calling: settings::factory_calling(),
+        motor: motor::resting(),
     }
 }
 
@@ -30,7 +32,9 @@ pub fn is_sound(s: State) -> bool
     ensures { λ r. ⌜ r ≡ sound s ⌝ }
 {
     let settings = s.settings;
+    let calling = s.calling;
     let connection = s.connection;
     let reader = s.reader;
-    settings::is_sound(settings, connection) & reader.is_sound()
+    let motor = s.motor;
+    settings::is_sound(settings, calling, connection) & (reader.is_sound() & motor::is_sound(motor))
 }

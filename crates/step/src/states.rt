@@ -1,10 +1,13 @@
 // The state with one of its parts set anew.
 ghost use mathlib.Core.Path.{_≡_};
 ghost use Rattle.sender.specs.Item.{fresh};
-ghost use Rattle.step.specs.State.{withReader, withSender, withReading, withIncoming, withStored};
+ghost use Rattle.settings.specs.Laws.{Lasts};
+ghost use Rattle.step.specs.State.{withReader, withSender, withReading, withIncoming, withMotor, withStored};
 use crate::State;
 use code::Case;
 use command::Reader;
+use motor::Motor;
+use motor::resting;
 use sender::Column;
 use sender::Known;
 use sender::Last;
@@ -37,6 +40,8 @@ pub fn with_reading(s: State, case: Case) -> State
     let sender = s.sender;
     let incoming = s.incoming;
     let reader = s.reader;
+    let calling = s.calling;
+    let motor = s.motor;
     State {
         settings,
         connection,
@@ -44,6 +49,8 @@ pub fn with_reading(s: State, case: Case) -> State
         reading: case,
         incoming,
         reader,
+        calling,
+        motor,
     }
 }
 
@@ -56,6 +63,8 @@ pub fn with_incoming(s: State, case: Case) -> State
     let sender = s.sender;
     let reading = s.reading;
     let reader = s.reader;
+    let calling = s.calling;
+    let motor = s.motor;
     State {
         settings,
         connection,
@@ -63,7 +72,17 @@ pub fn with_incoming(s: State, case: Case) -> State
         reading,
         incoming: case,
         reader,
+        calling,
+        motor,
     }
+}
+
+// The state with another motor.
+pub fn with_motor(mut s: State, motor: Motor) -> State
+    ensures { λ r. ⌜ r ≡ withMotor s motor ⌝ }
+{
+    s.motor = motor;
+    s
 }
 
 // The sender on connection: the record unknown, no last item.
@@ -79,32 +98,25 @@ pub fn fresh_sender() -> Sender
     }
 }
 
-// The state with what a command stored.
-pub fn with_stored(s: State, t: Stored) -> State
+// The state with what a command stored. Where the motor does not forget, neither the connection nor how a station is called was written, and
+// all but the settings stays in its place.
+pub fn with_stored(mut s: State, t: Stored) -> State
+    requires { ⌜ Lasts (s .calling) (s .connection) t ⌝ }
     ensures { λ r. ⌜ r ≡ withStored s t ⌝ }
 {
     let settings = t.settings;
     let connection = t.connection;
-    let reader = s.reader;
-    if t.connected {
-        return State {
-            settings,
-            connection,
-            sender: fresh_sender(),
-            reading: Case::Letters,
-            incoming: Case::Letters,
-            reader,
-        };
+    let calling = t.calling;
+    s.settings = settings;
+    if !t.forgets {
+        return s;
     }
-    let sender = s.sender;
-    let reading = s.reading;
-    let incoming = s.incoming;
-    State {
-        settings,
-        connection,
-        sender,
-        reading,
-        incoming,
-        reader,
+    s.connection = connection;
+    s.calling = calling;
+    s.motor = resting();
+    if !t.connected {
+        return s;
     }
+    s.sender = fresh_sender();
+    with_reading(with_incoming(s, Case::Letters), Case::Letters)
 }

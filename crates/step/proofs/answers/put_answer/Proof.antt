@@ -1,6 +1,7 @@
 -- `step::answers::put_answer` meets its contract: the command does what its definition says, and its answer has at most ten numbers.
 -- Assumes nothing.
 use Rattle.settings.proofs.Sent.{answers-short}
+use Rattle.settings.proofs.Written.{commanded-lasts}
 use Rattle.step.proofs.Answered.{made-puts}
 use borrow.Author.Needs.{needs}
 use Rattle.step.proofs.answers.put_answer.Statement.{statement}
@@ -10,14 +11,17 @@ run-requires : tie.Need-run-requires
 run-requires c κs = search needs
 
 with-stored-requires : tie.Need-with-stored-requires
-with-stored-requires c κs = search needs
+with-stored-requires c κs =
+    let r = c .before .before in
+    let a = r .before .before .before .before .before .args in
+    rw (r .run .ensures) (commanded-lasts (a .s .settings) (a .s .calling) (a .s .connection) (a .v) (a .count) (a .fields))
 
 make-first-requires : tie.Need-make-first-requires
 make-first-requires c κs =
     let r = c .before .before .before .before in
-    let b = r .before .before .before .before in
+    let b = r .before .before .before .before .before in
     let a = b .args in
-    rw (r .run .ensures) (answers-short (a .s .settings) (a .s .connection) (b .pre) (a .v) (a .count) (a .fields) (b .good .1 .1 .1 .0 .1 .0 .1) .few)
+    rw (r .run .ensures) (answers-short (a .s .settings) (a .s .calling) (a .s .connection) (b .pre) (a .v) (a .count) (a .fields) (b .good .1 .1 .1 .0 .1 .0 .1) .few)
 
 same-length : tie.Need-same-length
 same-length c = search needs
