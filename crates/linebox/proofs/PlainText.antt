@@ -14,7 +14,8 @@ use Rattle.command.specs.declared.Stage.{Stage}
 use Rattle.command.specs.declared.Stage.the-variants as stage
 use Rattle.command.specs.Read.{read, readAt, afresh, at, idle}
 use Rattle.code.specs.Kinds.{kindOf}
-use Rattle.sender.specs.Item.{items, wantedBy, wantedText}
+use Rattle.sender.specs.Item.{items, wanted, wantedBy, wantedText}
+use Rattle.sender.specs.Reading.{readCase}
 use Rattle.sender.specs.Run.{asksNext, caseAsked, stopsAt, Run, most, runOf, SendsRun}
 use Rattle.sender.specs.declared.Sent.{Sent}
 use Rattle.linebox.specs.Names.{Case, Route, Dropped, ToPrinter, ToHost, ToTu, Settings, Sender, Asks, Text, Codes, Byte, Above, One, State, Stream, Host, Tu, Ran}
@@ -23,6 +24,8 @@ use Rattle.step.specs.Step.{Step, sends, text, hosted, hostStep, tued, tuStep, 
 use Rattle.linebox.specs.Call.{firstOf, secondOf, refuses, fits, Done, before, taking}
 use Rattle.linebox.specs.Plain.{isText}
 use Rattle.step.specs.Route.{route, isPrinter}
+use Rattle.step.specs.Hear.{listens}
+use Rattle.step.proofs.Hearing.{deaf-motor, deaf-told}
 use Rattle.sender.proofs.Sending.{run-within, run-none}
 use Rattle.linebox.specs.Call.{Runs}
 use Rattle.step.proofs.Stays.{sound-parts, parts-sound}
@@ -75,34 +78,36 @@ texting s x = withSender (withReader s idle) x
 texting-sound : (s : State) (x : Sender) → sound s ≡ true → sound (texting s x) ≡ true
 texting-sound s x ok =
     let p = sound-parts s ok in
-    parts-sound (texting s x) (record { held = p .held; stage = refl; eleven = refl })
+    parts-sound (texting s x) (record { held = p .held; stage = refl; eleven = refl; motor = p .motor })
 
 text-step : (s : State) (b : ℕ) → isPrinter (route (s .connection) Host) ≡ true → isText (s .reader .stage) ≡ true → eqb b 47 ≡ false → hostStep s b ≡ sends (withReader s idle) (wantedBy (s .settings) Text b)
 text-step s b m h e = rw (reads-text (s .reader .stage) (s .reader .values) b h e, open-text (s .settings) (route (s .connection) Host) (b ∷ []) m, append-nil)
 
-plain-text : (s : State) → isPrinter (route (s .connection) Host) ≡ true → (x : Sender) (a : Asks) (b : ℕ) → asText a ≡ true → stopsAt (Byte 47) b ≡ false → Plain Host (s .settings) (λ y z. texting s y) x a b
-plain-text s m x Text b h e =
+plain-text : (s : State) → isPrinter (route (s .connection) Host) ≡ true → listens (s .calling) (s .connection) ≡ false → (x : Sender) (a : Asks) (b : ℕ) → asText a ≡ true → stopsAt (Byte 47) b ≡ false → Plain Host (s .settings) (λ y z. texting s y) x a b
+plain-text s m deaf x Text b h e =
     let u = text-step (texting s x) b m refl e in
-    record { is-taken = refl; state = rw u; first = rw u; second = rw u }
-plain-text s m x (Codes case) b h e = absurd (false≢true h)
+    let y = texting s x in
+    let ws = wantedBy (s .settings) Text b in
+    record { is-taken = refl; state = rw (u, deaf-motor y ws deaf); first = rw u; second = rw u (deaf-told y ws deaf) }
+plain-text s m deaf x (Codes case) b h e = absurd (false≢true h)
 
 -- the first byte of a run is read as if no field had ever been
-first-same : (s : State) (xs : List ℕ) (room more : ℕ) → isPrinter (route (s .connection) Host) ≡ true → isText (s .reader .stage) ≡ true
+first-same : (s : State) (xs : List ℕ) (room more : ℕ) → isPrinter (route (s .connection) Host) ≡ true → listens (s .calling) (s .connection) ≡ false → isText (s .reader .stage) ≡ true
     → (runOf (s .settings) (s .sender) Text (Byte 47) xs room .taken ≡ 0 → ⊥) → taking Host s xs room more ≡ taking Host (texting s (s .sender)) xs room more
-first-same s [] room more m h n = absurd (n refl)
-first-same s (b ∷ xs) room more m h n = go (eqb b 47) refl (leb most room) refl n
+first-same s [] room more m deaf h n = absurd (n refl)
+first-same s (b ∷ xs) room more m deaf h n = go (eqb b 47) refl (leb most room) refl n
   where
     go : (z : Bool) → eqb b 47 ≡ z → (fit : Bool) → leb most room ≡ fit → (runOf (s .settings) (s .sender) Text (Byte 47) (b ∷ xs) room .taken ≡ 0 → ⊥)
         → taking Host s (b ∷ xs) room more ≡ taking Host (texting s (s .sender)) (b ∷ xs) room more
     go true e fit f n = absurd (n (rw e))
     go false e false f n = absurd (n (rw (e, f)))
     go false e true f n =
-        let p = plain-text s m (s .sender) Text b refl e in
+        let p = plain-text s m deaf (s .sender) Text b refl e in
         let fits = most-fits Host (s .settings) (λ y z. texting s y) (s .sender) Text b room more p f in
         let u : hostStep s b ≡ hostStep (texting s (s .sender)) b = text-step s b m h e ∙ sym (text-step (texting s (s .sender)) b m refl e) in
         rw (u, fits)
 
-module _ (s : State) (ok : sound s ≡ true) (m : isPrinter (route (s .connection) Host) ≡ true) (h : isText (s .reader .stage) ≡ true) (input old now : List ℕ) (x : Sent)
+module _ (s : State) (ok : sound s ≡ true) (m : isPrinter (route (s .connection) Host) ≡ true) (h : isText (s .reader .stage) ≡ true) (deaf : listens (s .calling) (s .connection) ≡ false) (input old now : List ℕ) (x : Sent)
     (f : SendsRun (runOf (s .settings) (s .sender) Text (Byte 47) input (length old)) old now x) where
   abbrev d : Run
   d = runOf (s .settings) (s .sender) Text (Byte 47) input (length old)
@@ -125,8 +130,8 @@ module _ (s : State) (ok : sound s ≡ true) (m : isPrinter (route (s .connectio
         places = rw (f .gives) at (f .places);
         rest =
             λ room.
-            first-same s input (length old) room m h n
-            ∙ plainly Host (s .settings) (λ y z. texting s y) (Byte 47) asText (keeps-text (s .settings)) (plain-text s m) input (s .sender) Text (length old) room refl;
+            first-same s input (length old) room m deaf h n
+            ∙ plainly Host (s .settings) (λ y z. texting s y) (Byte 47) asText (keeps-text (s .settings)) (plain-text s m deaf) input (s .sender) Text (length old) room refl;
       })
 
 -- TU codes.
@@ -141,26 +146,28 @@ open-codes ToPrinter s c h = refl
 open-codes ToHost s c h = absurd (false≢true h)
 open-codes ToTu s c h = absurd (false≢true h)
 
-plain-codes : (s : State) → isPrinter (route (s .connection) Tu) ≡ true → (x : Sender) (a : Asks) (b : ℕ) → asCodes a ≡ true → stopsAt (Above 31) b ≡ false → Plain Tu (s .settings) (coding s) x a b
-plain-codes s m x Text b h e = absurd (false≢true h)
-plain-codes s m x (Codes case) b h e =
+plain-codes : (s : State) → isPrinter (route (s .connection) Tu) ≡ true → listens (s .calling) (s .connection) ≡ false → (x : Sender) (a : Asks) (b : ℕ) → asCodes a ≡ true → stopsAt (Above 31) b ≡ false → Plain Tu (s .settings) (coding s) x a b
+plain-codes s m deaf x Text b h e = absurd (false≢true h)
+plain-codes s m deaf x (Codes case) b h e =
     let u = open-codes (route (s .connection) Tu) (coding s x (Codes case)) b m in
-    record { is-taken = e; state = rw u; first = rw u; second = rw u }
+    let y = withIncoming (coding s x (Codes case)) (readCase (s .settings) case (kindOf b)) in
+    let ws = wanted case b ∷ [] in
+    record { is-taken = e; state = rw (u, deaf-motor y ws deaf); first = rw u; second = rw u (deaf-told y ws deaf) }
 
 coding-sound : (s : State) (x : Sender) (a : Asks) → sound s ≡ true → sound (coding s x a) ≡ true
 coding-sound s x a ok =
     let p = sound-parts s ok in
-    parts-sound (coding s x a) (record { held = p .held; stage = p .stage; eleven = p .eleven })
+    parts-sound (coding s x a) (record { held = p .held; stage = p .stage; eleven = p .eleven; motor = p .motor })
 
-pub codes-run : (s : State) (ok : sound s ≡ true) (m : isPrinter (route (s .connection) Tu) ≡ true) (input old now : List ℕ) (x : Sent)
+pub codes-run : (s : State) (ok : sound s ≡ true) (m : isPrinter (route (s .connection) Tu) ≡ true) (deaf : listens (s .calling) (s .connection) ≡ false) (input old now : List ℕ) (x : Sent)
     → SendsRun (runOf (s .settings) (s .sender) (Codes (s .incoming)) (Above 31) input (length old)) old now x
     → Runs Tu s input old now (record { state = coding s (x .sender) (x .asks); taken = x .taken; count = x .count })
-codes-run s ok m input old now x f =
+codes-run s ok m deaf input old now x f =
     let d = runOf (s .settings) (s .sender) (Codes (s .incoming)) (Above 31) input (length old) in
     rw (f .gives) (record {
       new = d .codes;
       within = run-within (s .settings) (s .sender) (Codes (s .incoming)) (Above 31) input (length old);
       kept = coding-sound s (d .sender) (d .asks) ok;
       places = rw (f .gives) at (f .places);
-      rest = λ room. plainly Tu (s .settings) (coding s) (Above 31) asCodes (keeps-codes (s .settings)) (plain-codes s m) input (s .sender) (Codes (s .incoming)) (length old) room refl;
+      rest = λ room. plainly Tu (s .settings) (coding s) (Above 31) asCodes (keeps-codes (s .settings)) (plain-codes s m deaf) input (s .sender) (Codes (s .incoming)) (length old) room refl;
     })

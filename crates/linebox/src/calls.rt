@@ -114,11 +114,11 @@ pub fn take_tu(start: State, codes: &[u8], line: &mut [u8], host: &mut [u8]) -> 
         if codes.len() <= taken {
             return ended(Answer::All, taken, one, two, state);
         }
-        let c = codes[taken];
-        if 31 < c {
+        let code = codes[taken];
+        if 31 < code {
             return ended(Answer::NoCode, taken, one, two, state);
         }
-        let x = put_tu(state, c, &mut line[one..], &mut host[two..]);
+        let x = put_tu(state, code, &mut line[one..], &mut host[two..]);
         if !x.fits {
             return ended(Answer::NoRoom, taken, one, two, state);
         }

@@ -1,11 +1,13 @@
-// Runs of plain bytes, written straight into the free part of the line buffer: text or TU codes whose route is to the printer.
+// Runs of plain bytes, written straight into the free part of the line buffer: text or TU codes whose route is to the printer, while nothing
+// is heard.
 ghost use mathlib.Core.Path.{_≡_};
-ghost use mathlib.Core.Bool.{true};
+ghost use mathlib.Core.Bool.{true, false};
 ghost use Rattle.linebox.specs.Names.{Host as Names·Host, Tu as Names·Tu};
 ghost use Rattle.step.specs.State.{sound};
 ghost use Rattle.linebox.specs.Call.{Runs};
 ghost use Rattle.linebox.specs.Plain.{isText};
 ghost use Rattle.step.specs.Route.{route, isPrinter};
+ghost use Rattle.step.specs.Hear.{listens};
 use crate::Ran;
 use command::Reader;
 use command::Stage;
@@ -13,6 +15,7 @@ use sender::Asks;
 use sender::Until;
 use step::State;
 use step::Stream;
+use step::hears::is_heard;
 use step::routes::prints;
 use step::states::with_incoming;
 use step::states::with_reader;
@@ -47,7 +50,7 @@ fn unmoved(s: State) -> Ran
 
 // Plain text to the printer.
 fn run_text(s: State, input: &[u8], line: &mut [u8]) -> Ran
-    requires { ⌜ (sound s ≡ true) × (isPrinter (route (s .connection) Names·Host) ≡ true) × (isText (s .reader .stage) ≡ true) ⌝ }
+    requires { ⌜ (sound s ≡ true) × (isPrinter (route (s .connection) Names·Host) ≡ true) × (isText (s .reader .stage) ≡ true) × (listens (s .calling) (s .connection) ≡ false) ⌝ }
     ensures { λ r. ⌜ Runs Names·Host s (now (input .entry)) (now (line .entry)) (now (line .exit)) r ⌝ }
 {
     let settings = s.settings;
@@ -64,7 +67,7 @@ fn run_text(s: State, input: &[u8], line: &mut [u8]) -> Ran
     }
 }
 
-// The plain text that comes next, as far as there is room.
+// The plain text that comes next, as far as there is room; none while it is heard.
 pub fn take_text(s: State, input: &[u8], line: &mut [u8]) -> Ran
     requires { ⌜ sound s ≡ true ⌝ }
     ensures { λ r. ⌜ Runs Names·Host s (now (input .entry)) (now (line .entry)) (now (line .exit)) r ⌝ }
@@ -72,6 +75,9 @@ pub fn take_text(s: State, input: &[u8], line: &mut [u8]) -> Ran
     let connection = s.connection;
     let reader = s.reader;
     let stage = reader.stage;
+    if is_heard(s) {
+        return unmoved(s);
+    }
     if prints(connection, Stream::Host) {
         if is_text(stage) {
             return run_text(s, input, line);
@@ -82,7 +88,7 @@ pub fn take_text(s: State, input: &[u8], line: &mut [u8]) -> Ran
 
 // TU codes to the printer.
 fn run_codes(s: State, codes: &[u8], line: &mut [u8]) -> Ran
-    requires { ⌜ (sound s ≡ true) × (isPrinter (route (s .connection) Names·Tu) ≡ true) ⌝ }
+    requires { ⌜ (sound s ≡ true) × (isPrinter (route (s .connection) Names·Tu) ≡ true) × (listens (s .calling) (s .connection) ≡ false) ⌝ }
     ensures { λ r. ⌜ Runs Names·Tu s (now (codes .entry)) (now (line .entry)) (now (line .exit)) r ⌝ }
 {
     let settings = s.settings;
@@ -105,12 +111,15 @@ fn run_codes(s: State, codes: &[u8], line: &mut [u8]) -> Ran
     }
 }
 
-// The TU codes that come next, as far as there is room.
+// The TU codes that come next, as far as there is room; none while they are heard.
 pub fn take_codes(s: State, codes: &[u8], line: &mut [u8]) -> Ran
     requires { ⌜ sound s ≡ true ⌝ }
     ensures { λ r. ⌜ Runs Names·Tu s (now (codes .entry)) (now (line .entry)) (now (line .exit)) r ⌝ }
 {
     let connection = s.connection;
+    if is_heard(s) {
+        return unmoved(s);
+    }
     if prints(connection, Stream::Tu) {
         return run_codes(s, codes, line);
     }

@@ -101,8 +101,8 @@ returns c =
     (stops Tu (a .start) (now (a .codes)) (now (a .line)) (now (a .host)) (x .state) (l .taken + x .taken) _ (l .host) (l .one + x .count) (l .two) All (run-of d)
     (all-taken Tu (a .start) (now (a .codes)) (now (a .line)) (now (a .host)) (x .state) (l .taken + x .taken) _ _ (c .before .if1 .taken)))
 
-shared-slice-read-c : tie.Need-shared-slice-read-c Inv-loop μ-loop
-shared-slice-read-c c = c .before .if1 .left
+shared-slice-read-code : tie.Need-shared-slice-read-code Inv-loop μ-loop
+shared-slice-read-code c = c .before .if1 .left
 
 ended-requires-2 : tie.Need-ended-requires-2 Inv-loop μ-loop
 ended-requires-2 c κs = search needs
@@ -272,7 +272,7 @@ take-tu-spec =
     same-length
     same-length-2
     returns
-    shared-slice-read-c
+    shared-slice-read-code
     ended-requires-2
     same-length-3
     same-length-4

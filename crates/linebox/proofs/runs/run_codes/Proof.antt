@@ -27,7 +27,7 @@ returns c =
     let b = d .before .before .before .before .before .before in
     let a = b .args in
     rw (c .with-sender .ensures, c .before .with-incoming .ensures, c .before .before .case-asked .ensures)
-    (codes-run (a .s) (b .pre .0) (b .pre .1) (now (a .codes)) (now (a .line)) _ (d .send .result) (d .send .ensures))
+    (codes-run (a .s) (b .pre .0) (b .pre .1) (b .pre .2) (now (a .codes)) (now (a .line)) _ (d .send .result) (d .send .ensures))
 
 pub run-codes-spec : {M : Type 1} → statement M
 run-codes-spec =

@@ -20,7 +20,7 @@ returns c =
     let d = c .before .before .before .before .before .before in
     let b = d .before .before .before .before .before .before in
     let a = b .args in
-    rw (c .unmoved .ensures) (text-none (a .s) (b .pre .0) (b .pre .1) (b .pre .2) (now (a .input)) (now (a .line)) _ (d .send .result) (d .send .ensures) (c .before .if1 .taken))
+    rw (c .unmoved .ensures) (text-none (a .s) (b .pre .0) (b .pre .1) (b .pre .2) (b .pre .3) (now (a .input)) (now (a .line)) _ (d .send .result) (d .send .ensures) (c .before .if1 .taken))
 
 idle-requires : tie.Need-idle-requires
 idle-requires c κs = search needs
@@ -41,7 +41,7 @@ returns-2 c =
     let b = d .before .before .before .before .before .before in
     let a = b .args in
     rw (c .with-sender .ensures, c .before .with-reader .ensures, c .before .before .idle .ensures)
-    (text-runs (a .s) (b .pre .0) (b .pre .1) (b .pre .2) (now (a .input)) (now (a .line)) _ (d .send .result) (d .send .ensures) (e .if1 .left))
+    (text-runs (a .s) (b .pre .0) (b .pre .1) (b .pre .2) (b .pre .3) (now (a .input)) (now (a .line)) _ (d .send .result) (d .send .ensures) (e .if1 .left))
 
 pub run-text-spec : {M : Type 1} → statement M
 run-text-spec =
