@@ -10,6 +10,7 @@ pub use Rattle.command.specs.declared.Stage.the-variants.{Text, Swallow, Held, 
 pub use Rattle.command.specs.declared.Reader.{Reader}
 pub use Rattle.settings.specs.declared.Settings.{Settings}
 pub use Rattle.settings.specs.declared.Connection.{Connection}
+pub use Rattle.settings.specs.declared.Calling.{Calling}
 pub use Rattle.sender.specs.declared.Known.{Known}
 pub use Rattle.sender.specs.declared.Known.the-variants.{Is}
 pub use Rattle.sender.specs.declared.Known.the-variants as known
@@ -20,4 +21,7 @@ pub use Rattle.sender.specs.declared.Last.{Last}
 pub use Rattle.sender.specs.declared.Last.the-variants.{Shift}
 pub use Rattle.sender.specs.declared.Last.the-variants as last
 pub use Rattle.sender.specs.declared.Sender.{Sender}
+pub use Rattle.motor.specs.declared.Run.{Run}
+pub use Rattle.motor.specs.declared.Run.the-variants.{Off, Called, On}
+pub use Rattle.motor.specs.declared.Motor.{Motor}
 pub use Rattle.step.specs.declared.State.{State}

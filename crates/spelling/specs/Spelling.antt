@@ -1,12 +1,12 @@
 -- The state as 128 bytes: each field at its offset, and what bytes spell.
-use Prim.Native.Nat.{ℕ, zero, suc}
+use Prim.Native.Nat.{ℕ, zero, suc, _+_, _-_, _%_}
 use mathlib.Core.Bool.{Bool, true, false, cond}
 use mathlib.Core.List.{List, [], _∷_, _++_}
 use lib.Dec.{eqb}
 use lib.ListN.{getD, set, replicate}
 use Rattle.laws.specs.Same.{same}
 use Rattle.word.specs.Word.{numberBy, bytesOf}
-use Rattle.spelling.specs.Names.{Case, Letters, Figures, Verb, Write, Read, Other, Form, Empty, Digits, Ex, Stage, Text, Swallow, Held, Begun, Lettered, Typed, Fields, Discard, Reader, Settings, Connection, Known, Is, Column, At, Last, Shift, Sender, State}
+use Rattle.spelling.specs.Names.{Case, Letters, Figures, Verb, Write, Read, Other, Form, Empty, Digits, Ex, Stage, Text, Swallow, Held, Begun, Lettered, Typed, Fields, Discard, Reader, Settings, Connection, Calling, Known, Is, Column, At, Last, Shift, Sender, Run, Off, Called, On, Motor, State}
 use Rattle.spelling.specs.Names.known
 use Rattle.spelling.specs.Names.column
 use Rattle.spelling.specs.Names.last
@@ -85,13 +85,31 @@ stageBytes Discard = 7 ∷ 0 ∷ 0 ∷ 0 ∷ []
 abbrev pub readerBytes : Reader → List ℕ
 readerBytes r = stageBytes (r .stage) ++ part (r .values) 0 11
 
--- 38 to 127, where no option is
-abbrev pub spare : List ℕ
-spare = replicate 90 0
+-- 44 and 45: whether the motor runs, and one more than the codes since the first string 93 that counts, as a byte
+abbrev pub runBytes : Run → List ℕ
+runBytes Off = 0 ∷ 0 ∷ []
+runBytes (Called n) = 0 ∷ (n + 1) % 256 ∷ []
+runBytes On = 1 ∷ 0 ∷ []
+
+-- 56 to 63: the codes heard as one number, lowest byte first
+abbrev pub heardBytes : Motor → List ℕ
+heardBytes m = bytesOf (m .heard)
+
+-- one of strings 91 to 95 by its place: its number, lowest byte first
+abbrev pub signalBytes : Calling → ℕ → List ℕ
+signalBytes k place = bytesOf (getD (k .strings) place 0)
+
+-- 64 to 103: all of them
+abbrev pub signalsBytes : Calling → List ℕ
+signalsBytes k = signalBytes k 0 ++ (signalBytes k 1 ++ (signalBytes k 2 ++ (signalBytes k 3 ++ signalBytes k 4)))
+
+-- 38 to 127, where no option is: 39 is the motor power mode, and a byte that no field has is 0
+abbrev pub restBytes : Calling → Motor → List ℕ
+restBytes k m = 0 ∷ k .power ∷ replicate 4 0 ++ (runBytes (m .run) ++ (replicate 10 0 ++ (heardBytes m ++ (signalsBytes k ++ replicate 24 0))))
 
 -- all but the options; 21 and 22 are the reading cases
 abbrev pub besides : State → List ℕ
-besides s = replicate 6 0 ++ (stringBytes (s .settings) ++ (connectionBytes (s .connection) ++ (senderBytes (s .sender) ++ (caseByte (s .reading) ∷ caseByte (s .incoming) ∷ readerBytes (s .reader) ++ spare))))
+besides s = replicate 6 0 ++ (stringBytes (s .settings) ++ (connectionBytes (s .connection) ++ (senderBytes (s .sender) ++ (caseByte (s .reading) ∷ caseByte (s .incoming) ∷ readerBytes (s .reader) ++ restBytes (s .calling) (s .motor)))))
 
 -- the whole state
 unfoldable pub spelt : State → List ℕ
@@ -122,9 +140,13 @@ abbrev pub pick : List ℕ → List ℕ → List ℕ
 pick b [] = []
 pick b (o ∷ os) = getD b o 0 ∷ pick b os
 
+-- the number of eight bytes from place i on
+abbrev pub wordAt : List ℕ → ℕ → ℕ
+wordAt b i = numberBy 256 (part b i 8)
+
 -- the options by their offsets, string 90's number from 6 on
 abbrev pub settingsOf : List ℕ → Settings
-settingsOf b = record { values = pick b offsets; string = numberBy 256 (part b 6 8) }
+settingsOf b = record { values = pick b offsets; string = wordAt b 6 }
 
 -- mode, port and speed
 abbrev pub connectionOf : List ℕ → Connection
@@ -143,6 +165,20 @@ stageOf n x y z = cond (eqb n 4) (Lettered (eqb x 1) (eqb y 1)) (cond (eqb n 5) 
 abbrev pub readerOf : List ℕ → Reader
 readerOf b = record { stage = stageOf (getD b 23 0) (getD b 24 0) (getD b 25 0) (getD b 26 0); values = part b 27 11 }
 
+-- strings 91 to 95, their bytes from place i on
+abbrev pub signalsOf : List ℕ → ℕ → List ℕ
+signalsOf b i = wordAt b i ∷ wordAt b (i + 8) ∷ wordAt b (i + 16) ∷ wordAt b (i + 24) ∷ wordAt b (i + 32) ∷ []
+
+-- the strings from 64 on, the motor power mode at 39
+abbrev pub callingOf : List ℕ → Calling
+callingOf b = record { strings = signalsOf b 64; power = getD b 39 0 }
+
+abbrev pub runOf : ℕ → ℕ → Run
+runOf on n = cond (eqb on 1) On (cond (eqb n 0) Off (Called (n - 1)))
+
+abbrev pub motorOf : List ℕ → Motor
+motorOf b = record { heard = wordAt b 56; run = runOf (getD b 44 0) (getD b 45 0) }
+
 unfoldable pub stateOf : List ℕ → State
 stateOf b = record {
   settings = settingsOf b;
@@ -151,6 +187,8 @@ stateOf b = record {
   reading = caseOf (getD b 21 0);
   incoming = caseOf (getD b 22 0);
   reader = readerOf b;
+  calling = callingOf b;
+  motor = motorOf b;
 }
 
 -- What bytes spell.

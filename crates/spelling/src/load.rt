@@ -2,7 +2,7 @@
 ghost use mathlib.Core.Path.{_≡_};
 ghost use lib.ListN.{length};
 ghost use Rattle.laws.specs.Same.{same};
-ghost use Rattle.spelling.specs.Spelling.{caseOf, columnOf, connectionOf, formOf, knownOf, lastOf, part, plainStage, readerOf, senderOf, settingsOf, spelt, stageOf, stateOf, verbOf};
+ghost use Rattle.spelling.specs.Spelling.{callingOf, caseOf, columnOf, connectionOf, formOf, knownOf, lastOf, motorOf, part, plainStage, readerOf, runOf, senderOf, settingsOf, spelt, stageOf, stateOf, verbOf};
 use crate::save::save;
 use crate::words::word_at;
 use code::Case;
@@ -10,11 +10,14 @@ use command::Form;
 use command::Reader;
 use command::Stage;
 use command::Verb;
+use motor::Motor;
+use motor::Run;
 use sender::Column;
 use sender::Known;
 use sender::Last;
 use sender::Record;
 use sender::Sender;
+use settings::Calling;
 use settings::Connection;
 use settings::Settings;
 use step::State;
@@ -169,6 +172,45 @@ fn reader_of(b: &[u8; 128]) -> Reader
     }
 }
 
+// How a station is called: strings 91 to 95 from offset 64 on, the motor power mode at 39.
+fn calling_of(b: &[u8; 128]) -> Calling
+    ensures { λ r. ⌜ r ≡ callingOf (now (b .entry)) ⌝ }
+{
+    Calling {
+        strings: [
+            word_at(b, 64),
+            word_at(b, 72),
+            word_at(b, 80),
+            word_at(b, 88),
+            word_at(b, 96),
+        ],
+        power: b[39],
+    }
+}
+
+// Whether the motor runs, of two bytes.
+fn run_of(on: u8, n: u8) -> Run
+    ensures { λ r. ⌜ r ≡ runOf on n ⌝ }
+{
+    if on == 1 {
+        Run::On
+    } else if n == 0 {
+        Run::Off
+    } else {
+        Run::Called(n - 1)
+    }
+}
+
+// The motor: the codes heard from offset 56 on, whether it runs from 44 on.
+fn motor_of(b: &[u8; 128]) -> Motor
+    ensures { λ r. ⌜ r ≡ motorOf (now (b .entry)) ⌝ }
+{
+    Motor {
+        heard: word_at(b, 56),
+        run: run_of(b[44], b[45]),
+    }
+}
+
 // The state that the bytes read as; whether they spell it is told by `is_spelling`.
 pub fn state_of(b: &[u8; 128]) -> State
     ensures { λ r. ⌜ r ≡ stateOf (now (b .entry)) ⌝ }
@@ -181,6 +223,8 @@ pub fn state_of(b: &[u8; 128]) -> State
         reading: case_of(b[21]),
         incoming: case_of(b[22]),
         reader,
+        calling: calling_of(b),
+        motor: motor_of(b),
     }
 }
 

@@ -1,16 +1,20 @@
 // The spelling of a state: each field at its offset.
 ghost use mathlib.Core.Path.{_≡_};
+ghost use lib.ListN.{set};
 ghost use mathlib.Core.List.{[], _∷_};
-ghost use Rattle.spelling.specs.Spelling.{caseByte, columnBytes, connectionBytes, formByte, knownByte, lastByte, part, offsets, puts, senderBytes, setsAt, spelt, stageBytes, stringBytes, verbByte};
+ghost use Rattle.spelling.specs.Spelling.{caseByte, columnBytes, connectionBytes, formByte, heardBytes, knownByte, lastByte, part, offsets, puts, runBytes, senderBytes, setsAt, signalsBytes, spelt, stageBytes, stringBytes, verbByte};
 use crate::words::put_word;
 use code::Case;
 use command::Form;
 use command::Stage;
 use command::Verb;
+use motor::Motor;
+use motor::Run;
 use sender::Column;
 use sender::Known;
 use sender::Last;
 use sender::Sender;
+use settings::Calling;
 use settings::Connection;
 use settings::Settings;
 use step::State;
@@ -93,6 +97,17 @@ fn stage_bytes(s: Stage) -> [u8; 4]
     }
 }
 
+// Whether the motor runs, and one more than the codes since the first string 93 that counts, as a byte.
+fn run_bytes(r: Run) -> [u8; 2]
+    ensures { λ x. ⌜ x ≡ runBytes r ⌝ }
+{
+    match r {
+        Run::Off => [0, 0],
+        Run::Called(n) => [0, ((n as u16 + 1) % 256) as u8],
+        Run::On => [1, 0],
+    }
+}
+
 // The settings: string 90's word from offset 6 on, and each option at its offset.
 fn put_settings(bytes: &mut [u8; 128], s: Settings)
     ensures { λ r. ⌜ now (bytes .exit) ≡ setsAt (puts (now (bytes .entry)) 6 (stringBytes s)) offsets 0 (s .values) ⌝ }
@@ -168,6 +183,31 @@ fn put_cases(bytes: &mut [u8; 128], reading: Case, incoming: Case)
     bytes[22] = case_byte(incoming);
 }
 
+// How a station is called: the motor power mode at 39, strings 91 to 95 from offset 64 on.
+fn put_calling(bytes: &mut [u8; 128], k: Calling)
+    ensures { λ r. ⌜ now (bytes .exit) ≡ puts (set (now (bytes .entry)) 39 (k .power)) 64 (signalsBytes k) ⌝ }
+{
+    let strings = k.strings;
+    bytes[39] = k.power;
+    put_word(bytes, 64, strings[0]);
+    put_word(bytes, 72, strings[1]);
+    put_word(bytes, 80, strings[2]);
+    put_word(bytes, 88, strings[3]);
+    put_word(bytes, 96, strings[4]);
+}
+
+// The motor: whether it runs from offset 44 on, the codes heard from 56 on.
+fn put_motor(bytes: &mut [u8; 128], m: Motor)
+    ensures { λ r. ⌜ now (bytes .exit) ≡ puts (puts (now (bytes .entry)) 44 (runBytes (m .run))) 56 (heardBytes m) ⌝ }
+{
+    let heard = m.heard;
+    let run = m.run;
+    let part = run_bytes(run);
+    bytes[44] = part[0];
+    bytes[45] = part[1];
+    put_word(bytes, 56, heard);
+}
+
 // The whole state, over whatever the bytes were.
 pub fn save(s: State, bytes: &mut [u8; 128])
     ensures { λ r. ⌜ now (bytes .exit) ≡ spelt s ⌝ }
@@ -178,6 +218,8 @@ pub fn save(s: State, bytes: &mut [u8; 128])
     let reading = s.reading;
     let incoming = s.incoming;
     let reader = s.reader;
+    let calling = s.calling;
+    let motor = s.motor;
     let stage = reader.stage;
     let values = reader.values;
     *bytes = [0u8; 128];
@@ -187,4 +229,6 @@ pub fn save(s: State, bytes: &mut [u8; 128])
     put_cases(bytes, reading, incoming);
     put_stage(bytes, stage);
     put_values(bytes, values);
+    put_calling(bytes, calling);
+    put_motor(bytes, motor);
 }

@@ -1,8 +1,8 @@
 // A word as eight bytes, lowest first.
 ghost use mathlib.Core.Path.{_≡_};
 ghost use Prim.Native.Nat.{_+_, _*_, _<_, _≤_};
-ghost use Rattle.word.specs.Word.{numberBy, bytesOf};
-ghost use Rattle.spelling.specs.Spelling.{part, puts};
+ghost use Rattle.word.specs.Word.{bytesOf};
+ghost use Rattle.spelling.specs.Spelling.{puts, wordAt};
 
 // The number of a byte and, above it, the others.
 fn beneath(rest: u64, b: u8) -> u64
@@ -15,7 +15,7 @@ fn beneath(rest: u64, b: u8) -> u64
 // The word from an offset on.
 pub fn word_at(b: &[u8; 128], at: usize) -> u64
     requires { ⌜ at ≤ 120 ⌝ }
-    ensures { λ r. ⌜ r ≡ numberBy 256 (part (now (b .entry)) at 8) ⌝ }
+    ensures { λ r. ⌜ r ≡ wordAt (now (b .entry)) at ⌝ }
 {
     let high = beneath(beneath(0, b[at + 7]), b[at + 6]);
     let upper = beneath(beneath(high, b[at + 5]), b[at + 4]);

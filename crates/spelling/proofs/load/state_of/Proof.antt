@@ -29,12 +29,19 @@ element-copy-out-case-of-2 c = search needs
 case-of-requires-2 : tie.Need-case-of-requires-2
 case-of-requires-2 c κs = search needs
 
+calling-of-requires : tie.Need-calling-of-requires
+calling-of-requires c κs = search needs
+
+motor-of-requires : tie.Need-motor-of-requires
+motor-of-requires c κs = search needs
+
 returns : tie.Need-returns
 unfolding stateOf
 returns c =
-    let x = c .before .before .before .before in
+    let y = c .before .before in
+    let x = y .before .before .before .before in
     let k = x .before in
-    rw (k .before .before .reader-of .ensures, k .before .settings-of .ensures, k .connection-of .ensures, x .sender-of .ensures, c .before .before .case-of .ensures, c .case-of2 .ensures)
+    rw (k .before .before .reader-of .ensures, k .before .settings-of .ensures, k .connection-of .ensures, x .sender-of .ensures, y .before .before .case-of .ensures, y .case-of2 .ensures, c .before .calling-of .ensures, c .motor-of .ensures)
 
 pub state-of-spec : {M : Type 1} → statement M
 state-of-spec =
@@ -48,4 +55,6 @@ state-of-spec =
     case-of-requires
     element-copy-out-case-of-2
     case-of-requires-2
+    calling-of-requires
+    motor-of-requires
     returns)

@@ -1,6 +1,6 @@
 -- `spelling::save::save` meets its contract: over 128 zeros, the parts make the spelling.
 -- Assumes nothing.
-use Rattle.spelling.proofs.Parts.{filled-spelt}
+use Rattle.spelling.proofs.Parts.{put-all}
 use borrow.Author.Needs.{needs}
 use Rattle.spelling.proofs.save.save.Statement.{statement}
 use Rattle.spelling.proofs.save.save.Tie as tie
@@ -23,15 +23,22 @@ put-stage-requires c κs = search needs
 put-values-requires : tie.Need-put-values-requires
 put-values-requires c κs = search needs
 
+put-calling-requires : tie.Need-put-calling-requires
+put-calling-requires c κs = search needs
+
+put-motor-requires : tie.Need-put-motor-requires
+put-motor-requires c κs = search needs
+
 returns : tie.Need-returns
 returns c =
-    let g = c .before .before in
+    let y = c .before .before in
+    let z = y .before .before in
+    let g = z .before .before in
     let k = g .before .before in
     let x = k .before .before in
     let l = x .before .before in
     let o = l .before .before in
-    rw (c .put-values .ensures, g .put-stage .ensures, k .put-cases .ensures, x .put-sender .ensures, l .put-connection .ensures, o .put-settings .ensures)
-    (filled-spelt (o .before .before .before .before .before .before .before .before .args .s))
+    put-all (o .before .before .before .before .before .before .before .before .before .before .args .s) (o .put-settings .ensures) (l .put-connection .ensures) (x .put-sender .ensures) (k .put-cases .ensures) (g .put-stage .ensures) (z .put-values .ensures) (y .put-calling .ensures) (c .put-motor .ensures)
 
 pub save-spec : {M : Type 1} → statement M
 save-spec =
@@ -43,4 +50,6 @@ save-spec =
     put-cases-requires
     put-stage-requires
     put-values-requires
+    put-calling-requires
+    put-motor-requires
     returns)
