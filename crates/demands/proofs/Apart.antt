@@ -6,6 +6,7 @@ use mathlib.Core.List.{List, [], _∷_, _++_}
 use Rattle.command.specs.Read.{read}
 use Rattle.step.specs.Route.{route}
 use Rattle.step.specs.State.{withReader, withSender}
+use Rattle.step.specs.Hear.{motorAfter}
 use Rattle.step.specs.Step.{hosted, lined, tued, step, Event}
 use Rattle.demands.specs.Names.{Reader, Out, Nothing, One, Two, Finished, Route, Dropped, ToPrinter, ToHost, ToTu, Sender, State, Stream, Host, Line, Tu}
 use Rattle.demands.specs.Asks.{asksBy}
@@ -13,6 +14,7 @@ use Rattle.demands.specs.Whole.{asksAll}
 
 module _ (s : State) (x : Sender) where
   hosted-apart : (r : Reader) (out : Out) → let y = hosted (withReader (withSender s x) r) (s .reader .values) out .state in y ≡ withSender (hosted (withReader s r) (s .reader .values) out .state) (y .sender)
+  unfolding motorAfter
   hosted-apart r Nothing = refl
   hosted-apart r (One b) = refl
   hosted-apart r (Two b) = refl
@@ -25,6 +27,7 @@ module _ (s : State) (x : Sender) where
   lined-apart ToTu c = refl
 
   tued-apart : (k : Route) (c : ℕ) → let y = tued k (withSender s x) c .state in y ≡ withSender (tued k s c .state) (y .sender)
+  unfolding motorAfter
   tued-apart Dropped c = refl
   tued-apart ToPrinter c = refl
   tued-apart ToHost c = refl

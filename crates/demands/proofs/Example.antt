@@ -9,11 +9,13 @@ use Rattle.code.specs.Rows.{rowAt}
 use Rattle.code.specs.Kinds.{kindOf}
 use Rattle.code.specs.Convert.{conversion}
 use Rattle.message.specs.Message.{digits}
-use Rattle.settings.specs.Table.{row, soundString, soundStandIn, soundSettings, soundConnection}
+use Rattle.settings.specs.Table.{row, soundString, soundStandIn, soundSettings, soundConnection, soundCalling, isSignal}
 use Rattle.settings.specs.Command.{commanded}
 use Rattle.settings.specs.Options.{endings, limit, onspace, onreturn, filter, reports, standIn, endingCodes}
 use Rattle.printer.specs.Printer.{hear, hears}
 use Rattle.agree.specs.Agrees.{ObeysAt, Obeys}
+use Rattle.motor.specs.Motor.{soundMotor}
+use Rattle.step.specs.Hear.{listens, motorAfter, toldOf}
 use Rattle.step.specs.Route.{route}
 use Rattle.step.specs.State.{freshBox}
 use Rattle.step.specs.Step.{step, Event}
@@ -76,17 +78,17 @@ obedient joining n x (e ∷ es) h =
 
 -- what its calls write to the line buffers
 pub example-codes : sentAll (exchanges ours freshBox calls) ≡ codes
-unfolding conversion kindOf rowAt digits soundString row route soundStandIn soundSettings soundConnection commanded endings limit onspace onreturn filter reports standIn endingCodes
+unfolding conversion kindOf rowAt digits soundString row route soundStandIn soundSettings soundCalling isSignal soundMotor soundConnection commanded endings limit onspace onreturn filter reports standIn endingCodes listens motorAfter toldOf
 example-codes = refl
 
 -- the bytes that its calls take
 pub example-bytes : tookAll (exchanges ours freshBox calls) ≡ bytes
-unfolding conversion kindOf rowAt digits soundString row route soundStandIn soundSettings soundConnection commanded endings limit onspace onreturn filter reports standIn endingCodes
+unfolding conversion kindOf rowAt digits soundString row route soundStandIn soundSettings soundCalling isSignal soundMotor soundConnection commanded endings limit onspace onreturn filter reports standIn endingCodes listens motorAfter toldOf
 example-bytes = refl
 
 -- its printers are obedient
 example-test : obeyAll joining 0 freshBox first bytes ≡ true
-unfolding conversion kindOf rowAt digits soundString row route soundStandIn soundSettings soundConnection commanded endings limit onspace onreturn filter reports standIn endingCodes
+unfolding conversion kindOf rowAt digits soundString row route soundStandIn soundSettings soundCalling isSignal soundMotor soundConnection commanded endings limit onspace onreturn filter reports standIn endingCodes listens motorAfter toldOf
 example-test = refl
 
 pub example-obedient : Obedient joining 0 (start first) (tookAll (exchanges ours freshBox calls))
@@ -98,7 +100,7 @@ example = ours-prints calls .holds first joining example-obedient
 
 -- and what is printed beside its two endings is what it asks for
 pub example-asked : asksAll freshBox bytes ≡ asked
-unfolding conversion kindOf rowAt digits soundString row route soundStandIn soundSettings soundConnection commanded endings limit onspace onreturn filter reports standIn endingCodes
+unfolding conversion kindOf rowAt digits soundString row route soundStandIn soundSettings soundCalling isSignal soundMotor soundConnection commanded endings limit onspace onreturn filter reports standIn endingCodes listens motorAfter toldOf
 example-asked = refl
 
 pub example-own : ownOf joining 0 (start first) (tookAll (exchanges ours freshBox calls)) example ≡ asked

@@ -7,6 +7,7 @@ pub mod Reading
 pub mod Stretches
 pub mod ReadingBack
 pub mod OnRecord
+pub mod Station
 pub mod Landing
 pub mod Printing
 pub mod Lent
@@ -18,3 +19,4 @@ pub mod Forgetful
 pub mod Traces
 pub mod ReadingExample
 pub mod Example
+pub mod StationExample

@@ -1,4 +1,5 @@
--- The most that one byte makes from a sound state: 16 line codes from the host and 14 from the TU, 36 host bytes, one TU code.
+-- The most that one byte makes from a sound state: 16 line codes and 37 host bytes from the host, 14 and 17 from the TU, one host byte or one
+-- TU code from the line.
 -- Assumes nothing.
 use Prim.Native.Nat.{ℕ, zero, suc, _≤_}
 use mathlib.Core.Path.{_≡_, sym, _∙_}
@@ -16,10 +17,12 @@ use Rattle.settings.specs.Laws.{Sound}
 use Rattle.settings.specs.Options.{reports, endingCodes}
 use Rattle.settings.proofs.Sent.{answers-short}
 use Rattle.sender.specs.Item.{wanted}
+use Rattle.sender.specs.Reading.{readCase}
 use Rattle.sender.proofs.Few.{text-few}
 use Rattle.agree.proofs.Length.{item-length, items-length}
 use Rattle.step.specs.Route.{route}
-use Rattle.step.specs.State.{sound, withReader}
+use Rattle.step.specs.State.{sound, withReader, withIncoming}
+use Rattle.step.proofs.Hearing.{told-few}
 use Rattle.step.specs.Step.{Step, sends, text, hosted, isRead, readAs, lined, tued, step}
 use Rattle.step.specs.Byte.{firstOf, secondOf}
 use Rattle.step.specs.Laws.{Parts, Few, mostFirst, mostSecond}
@@ -36,14 +39,14 @@ text-two o ToPrinter bs h = omega (arith, text-few o bs, h)
 text-two o ToHost bs h = lit≤ tt
 text-two o ToTu bs h = lit≤ tt
 
-sends-few : (s : State) (ws : List Wanted) → Sound (s .settings) (s .connection) → length ws ≤ 2 → Few Host (sends s ws)
-sends-few s ws h few = record { line = items-length (s .settings) (h .settings) (s .sender) ws few; host = lit≤ tt; tu = lit≤ tt }
+sends-few : (s : State) (ws : List Wanted) → Sound (s .settings) (s .calling) (s .connection) → length ws ≤ 2 → Few Host (sends s ws)
+sends-few s ws h few = record { line = items-length (s .settings) (h .settings) (s .sender) ws few; host = omega (arith, told-few s ws, few); tu = lit≤ tt }
 
-hosted-few : (s : State) (fields : List ℕ) (out : Out) → length fields ≡ 11 → Sound (s .settings) (s .connection) → Few Host (hosted s fields out)
+hosted-few : (s : State) (fields : List ℕ) (out : Out) → length fields ≡ 11 → Sound (s .settings) (s .calling) (s .connection) → Few Host (hosted s fields out)
 hosted-few s fields Nothing l h = record { line = lit≤ tt; host = lit≤ tt; tu = lit≤ tt }
 hosted-few s fields (One b) l h = sends-few s (text (s .settings) (route (s .connection) Host) (b ∷ [])) h (text-two (s .settings) (route (s .connection) Host) (b ∷ []) (lit≤ tt))
 hosted-few s fields (Two b) l h = sends-few s (text (s .settings) (route (s .connection) Host) (47 ∷ b ∷ [])) h (text-two (s .settings) (route (s .connection) Host) (47 ∷ b ∷ []) (lit≤ tt))
-hosted-few s fields (Finished v count) l h = record { line = lit≤ tt; host = answers-short (s .settings) (s .connection) h v count fields l .short; tu = lit≤ tt }
+hosted-few s fields (Finished v count) l h = record { line = lit≤ tt; host = answers-short (s .settings) (s .calling) (s .connection) h v count fields l .short; tu = lit≤ tt }
 
 read-few : (reports : Bool) (case : Case) (k : Kind) (c : ℕ) → length (readAs reports case k c) ≤ 1
 read-few reports case k c = go (isRead reports k)
@@ -58,9 +61,13 @@ lined-few ToPrinter s c = record { line = lit≤ tt; host = lit≤ tt; tu = lit�
 lined-few ToHost s c = record { line = lit≤ tt; host = read-few (reports (s .settings)) (s .reading) (kindOf c) c; tu = lit≤ tt }
 lined-few ToTu s c = record { line = lit≤ tt; host = lit≤ tt; tu = lit≤ tt }
 
-tued-few : (k : Route) (s : State) (c : ℕ) → Sound (s .settings) (s .connection) → Few Tu (tued k s c)
+tued-few : (k : Route) (s : State) (c : ℕ) → Sound (s .settings) (s .calling) (s .connection) → Few Tu (tued k s c)
 tued-few Dropped s c h = record { line = lit≤ tt; host = lit≤ tt; tu = lit≤ tt }
-tued-few ToPrinter s c h = record { line = rw append-nil (item-length (s .settings) (h .settings) (s .sender) (wanted (s .incoming) c)); host = lit≤ tt; tu = lit≤ tt }
+tued-few ToPrinter s c h = record {
+  line = rw append-nil (item-length (s .settings) (h .settings) (s .sender) (wanted (s .incoming) c));
+  host = told-few (withIncoming s (readCase (s .settings) (s .incoming) (kindOf c))) (wanted (s .incoming) c ∷ []);
+  tu = lit≤ tt;
+}
 tued-few ToHost s c h = record { line = lit≤ tt; host = lit≤ tt; tu = lit≤ tt }
 tued-few ToTu s c h = record { line = lit≤ tt; host = lit≤ tt; tu = lit≤ tt }
 

@@ -137,7 +137,7 @@ hosted-stays : (s : State) (r : Reader) (out : Out) → connecting s out ≡ fal
 hosted-stays s r Nothing h = refl
 hosted-stays s r (One b) h = refl
 hosted-stays s r (Two b) h = refl
-hosted-stays s r (Finished v count) h = commanded-keeps (s .settings) (s .connection) v count (s .reader .values) h
+hosted-stays s r (Finished v count) h = commanded-keeps (s .settings) (s .calling) (s .connection) v count (s .reader .values) h
 
 stays-by : (t : Stream) (s : State) (b : ℕ) → connectsBy t s b ≡ false → step t s b .state .connection ≡ s .connection
 stays-by Host s b h = hosted-stays s (read (s .reader) b .reader) (read (s .reader) b .out) h

@@ -10,16 +10,11 @@ use Rattle.step.specs.Route.{route}
 use Rattle.step.specs.State.{withReader}
 use Rattle.step.specs.Step.{text, hosted, lined, tued, step, Event}
 use Rattle.step.proofs.Ways.{lined-touches}
+use Rattle.step.proofs.Hearing.{text-none}
 use Rattle.demands.specs.Names.{Reader, Out, Nothing, One, Two, Finished, Settings, Route, Dropped, ToPrinter, ToHost, ToTu, Sender, State, Stream, Host, Line, Tu}
 use Rattle.demands.specs.Connects.{connecting, connectsBy, connects}
 use Rattle.demands.specs.Items.{carriedTo, itemsBy, itemsOf}
 use Rattle.demands.proofs.Sessions.{lined-none}
-
-text-none : (o : Settings) (k : Route) → text o k [] ≡ []
-text-none o Dropped = refl
-text-none o ToPrinter = refl
-text-none o ToHost = refl
-text-none o ToTu = refl
 
 module _ (s : State) where
   abbrev afterBy : Stream → ℕ → Sender

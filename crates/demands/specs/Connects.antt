@@ -11,7 +11,7 @@ abbrev pub connecting : State → Out → Bool
 connecting s Nothing = false
 connecting s (One b) = false
 connecting s (Two b) = false
-connecting s (Finished v count) = commanded (s .settings) (s .connection) v count (s .reader .values) .stored .connected
+connecting s (Finished v count) = commanded (s .settings) (s .calling) (s .connection) v count (s .reader .values) .stored .connected
 
 -- commands come in host bytes alone
 abbrev pub connectsBy : Stream → State → ℕ → Bool

@@ -11,6 +11,7 @@ pub mod Story
 pub mod Printing
 pub mod Whole
 pub mod OnRecord
+pub mod Station
 pub mod ReadingBack
 pub mod WrongBoxes
 pub mod WrongEndings
@@ -18,3 +19,4 @@ pub mod Traces
 pub mod Forgetful
 pub mod ReadingExample
 pub mod Example
+pub mod StationExample

@@ -9,6 +9,7 @@ pub use Rattle.command.specs.declared.Reader.{Reader}
 pub use Rattle.command.specs.declared.Out.{Out}
 pub use Rattle.command.specs.declared.Out.the-variants.{Nothing, One, Two, Finished}
 pub use Rattle.settings.specs.declared.Settings.{Settings}
+pub use Rattle.settings.specs.declared.Calling.{Calling}
 pub use Rattle.settings.specs.declared.Connection.{Connection}
 pub use Rattle.sender.specs.declared.Known.{Known}
 pub use Rattle.sender.specs.declared.Known.the-variants.{Is}

@@ -18,7 +18,7 @@ use Rattle.demands.specs.Connects.{connects}
 
 -- the box with these settings, all else as it was
 abbrev pub under : Settings → State → State
-under o s = record { settings = o; connection = s .connection; sender = s .sender; reading = s .reading; incoming = s .incoming; reader = s .reader }
+under o s = record { settings = o; connection = s .connection; sender = s .sender; reading = s .reading; incoming = s .incoming; reader = s .reader; calling = s .calling; motor = s .motor }
 
 -- the box's own line-to-host conversion, each code read under the settings that stand beside it
 abbrev pub readBack : State → List Settings → List ℕ → List ℕ

@@ -7,10 +7,20 @@ use Rattle.demands.specs.Traces.{mode1}
 use Rattle.onboard.specs.Names.{Host, Tu}
 use Rattle.onboard.specs.OneCall.{Wire}
 
+-- strings 91 to 95 with factory settings, each lowest byte first: 91 and 93 are 77,582,176,388
+abbrev strings : List ℕ
+strings =
+    132 ∷ 16 ∷ 66 ∷ 16 ∷ 18 ∷ 0 ∷ 0 ∷ 0
+    ∷ 130 ∷ 49 ∷ 198 ∷ 0 ∷ 0 ∷ 0 ∷ 0 ∷ 0
+    ∷ 132 ∷ 16 ∷ 66 ∷ 16 ∷ 18 ∷ 0 ∷ 0 ∷ 0
+    ∷ 16 ∷ 86 ∷ 135 ∷ 25 ∷ 3 ∷ 0 ∷ 0 ∷ 0
+    ∷ 209 ∷ 69 ∷ 7 ∷ 0 ∷ 0 ∷ 0 ∷ 0 ∷ 0
+    ∷ []
+
 -- the state's bytes with factory settings (string 90 is 33,523,976) and nothing held: a mode, port and speed, and the case on record
 abbrev bytes : ℕ → ℕ → ℕ → ℕ → List ℕ
 bytes mode port speed case =
-    0 ∷ 72 ∷ 0 ∷ 0 ∷ 0 ∷ 0 ∷ 8 ∷ 137 ∷ 255 ∷ 1 ∷ 0 ∷ 0 ∷ 0 ∷ 0 ∷ mode ∷ port ∷ speed ∷ case ∷ 0 ∷ 0 ∷ 0 ∷ 1 ∷ 1 ∷ replicate 105 0
+    0 ∷ 72 ∷ 0 ∷ 0 ∷ 0 ∷ 0 ∷ 8 ∷ 137 ∷ 255 ∷ 1 ∷ 0 ∷ 0 ∷ 0 ∷ 0 ∷ mode ∷ port ∷ speed ∷ case ∷ 0 ∷ 0 ∷ 0 ∷ 1 ∷ 1 ∷ replicate 41 0 ++ (strings ++ replicate 24 0)
 
 -- CR LF `-.TC,1,2,1,60` CR LF
 abbrev connected : List ℕ
