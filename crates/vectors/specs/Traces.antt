@@ -58,4 +58,4 @@ lending b s = record { state = b .state; first = getD (numbersIn 3 s) 0 0; secon
 
 -- the box with that number in option 50, which has place 1, sound or not
 abbrev pub limited : Start → List ℕ → Start
-limited b s = ready (withStored (b .state) (kept (withValue (b .state .settings) 1 (getD (numbersIn 1 s) 0 0)) (b .state .connection)))
+limited b s = ready (withStored (b .state) (kept (withValue (b .state .settings) 1 (getD (numbersIn 1 s) 0 0)) (b .state .calling) (b .state .connection)))

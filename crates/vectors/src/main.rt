@@ -1,8 +1,8 @@
 // Runs the firmware paper's tables, its commands and the traced lines, as standard input has them, and says where they differ.
 // A line is one entry of a table, a traced line or a comment. Traced lines and commands are each one call of a box that goes on
 // from line to line. After a bar come the fields, a bar after each: `N` a fresh box; `H` host bytes, and the line codes and host
-// bytes that come of them; `L` line codes, and host bytes and TU codes; `T` TU codes, line codes and nothing; `F` bytes, and the
-// message found in them. A call takes all of its input, unless one field more has its answer and the count taken. `R` has the
+// bytes that come of them; `L` line codes, and host bytes and TU codes; `T` TU codes, and line codes and host bytes; `F` bytes, and
+// the message found in them. A call takes all of its input, unless one field more has its answer and the count taken. `R` has the
 // next call's two rooms and the count taken so far; `Z` puts a number into setting 50 behind the box's back.
 ghost use Prim.Native.Nat.{_≤_};
 ghost use lib.ListN.{length};

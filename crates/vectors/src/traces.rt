@@ -126,10 +126,13 @@ pub fn limited(b: Start, s: &[u8]) -> Start
     let old = b.state;
     let was = old.settings;
     let connection = old.connection;
+    let calling = old.calling;
     let stored = Stored {
         settings: was.with_value(1, out[0]),
         connection,
         connected: false,
+        calling,
+        forgets: false,
     };
     ready(with_stored(old, stored))
 }

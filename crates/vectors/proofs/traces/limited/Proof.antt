@@ -31,7 +31,9 @@ ready-requires : tie.Need-ready-requires
 ready-requires c κs = search needs
 
 returns : tie.Need-returns
-returns c = rw (c .ready .ensures, c .before .with-stored .ensures, c .before .before .with-value .ensures, in-field 1 (now (c .before .before .before .before .before .before .before .before .before .before .before .before .args .s)) _ _ _ (c .before .before .before .before .before .before .before .before .before .before .after-bar .ensures) (c .before .before .before .before .before .before .before .before .before .before-bar .ensures) (c .before .before .before .before .before .before .before .decode .ensures .1))
+returns c =
+    let a = c .before .before .before .before .before .before .before .before .before .before .before .before .before .args in
+    rw (c .ready .ensures, c .before .with-stored .ensures, c .before .before .with-value .ensures, in-field 1 (now (a .s)) _ _ _ (c .before .before .before .before .before .before .before .before .before .before .before .after-bar .ensures) (c .before .before .before .before .before .before .before .before .before .before .before-bar .ensures) (c .before .before .before .before .before .before .before .before .decode .ensures .1))
 
 pub limited-spec : {M : Type 1} → statement M
 limited-spec =
