@@ -57,7 +57,6 @@ static void codes(void) {
 /* ---- Feeding it ---- */
 
 typedef uint32_t call_3(uint8_t *, const uint8_t *, uint64_t, uint8_t *, uint64_t, uint8_t *, uint64_t, uint64_t *);
-typedef uint32_t call_2(uint8_t *, const uint8_t *, uint64_t, uint8_t *, uint64_t, uint64_t *);
 typedef uint32_t call_find(const uint8_t *, uint64_t, uint64_t *);
 enum { HOST, LINE, TU, FIND };
 
@@ -70,8 +69,9 @@ struct work {
 
 /* A sum over all that came out, so that both sides are seen to give the same. */
 static uint64_t feed(const struct work *w, int by_model) {
-  call_3 *three = w->kind == HOST ? (by_model ? model_host : linebox_host) : (by_model ? model_line : linebox_line);
-  call_2 *two = by_model ? model_tu : linebox_tu;
+  call_3 *const three[] = {[HOST] = by_model ? model_host : linebox_host,
+                           [LINE] = by_model ? model_line : linebox_line,
+                           [TU] = by_model ? model_tu : linebox_tu};
   call_find *find = by_model ? model_find : linebox_find;
   uint8_t state[LINEBOX_STATE];
   uint64_t done[3] = {0, 0, 0}, sum = 0;
@@ -81,9 +81,8 @@ static uint64_t feed(const struct work *w, int by_model) {
     uint64_t n = SIZE - at < w->a_call ? SIZE - at : w->a_call;
     uint32_t answer;
     done[2] = 0;
-    if (w->kind == TU) answer = two(state, input + at, n, line, ROOM, done);
-    else if (w->kind == FIND) answer = find(input + at, n, done);
-    else answer = three(state, input + at, n, line, ROOM, host, ROOM, done);
+    if (w->kind == FIND) answer = find(input + at, n, done);
+    else answer = three[w->kind](state, input + at, n, line, ROOM, host, ROOM, done);
     sum = sum * 31 + answer + done[0] + done[1] * 3 + done[2] * 7 + line[done[1] / 2] + state[19];
   }
   return sum;
@@ -107,6 +106,7 @@ static const struct work works[] = {
     {"TU codes in mode 4", "/.TW,4,2,1,60\r" ON("49") ON("70"), codes, TU, 16384},
     {"line codes to the host", MODE_1, codes, LINE, 16384},
     {"finding no message", "", messages, FIND, 16384},
+    {"a night's log, 53 at 6", MODE_1 ON("49") ON("70") ON("71") "/.TW,53,1,6\r", night, HOST, 16384},
 };
 
 int main(int argc, char **argv) {

@@ -66,7 +66,9 @@ static void make(const struct call *c, struct side *s, int by_model) {
   case LINE:
     s->answer = (by_model ? model_line : linebox_line)(state, c->in, c->in_len, a, c->lent[0], b, c->lent[1], done);
     return;
-  case TU: s->answer = (by_model ? model_tu : linebox_tu)(state, c->in, c->in_len, a, c->lent[0], done); return;
+  case TU:
+    s->answer = (by_model ? model_tu : linebox_tu)(state, c->in, c->in_len, a, c->lent[0], b, c->lent[1], done);
+    return;
   default: s->answer = (by_model ? model_find : linebox_find)(c->in, c->in_len, done);
   }
 }
@@ -75,12 +77,12 @@ static void make(const struct call *c, struct side *s, int by_model) {
 static int kept_within(const struct call *c, const struct side *s) {
   for (int i = 0; i < GUARD; i++)
     if (s->state[i] != 0xA5 || s->state[GUARD + LINEBOX_STATE + i] != 0xA5) return 0;
-  int counts = c->kind == TU || c->kind == FIND ? 2 : 3;
+  int counts = c->kind == FIND ? 2 : 3;
   if (s->done[0] != 0xD0D0D0D0D0D0D0D0u) return 0;
   for (int i = counts + 1; i < 5; i++)
     if (s->done[i] != 0xD0D0D0D0D0D0D0D0u + (unsigned)i) return 0;
   for (int i = 0; i < 2; i++) {
-    uint64_t written = c->kind == FIND || i + 2 > counts ? 0 : s->done[2 + i];
+    uint64_t written = c->kind == FIND ? 0 : s->done[2 + i];
     if (written > c->lent[i] || memcmp(s->buffer[i], filling, GUARD) != 0) return 0;
     if (memcmp(s->buffer[i] + GUARD + written, filling + GUARD + written, c->lent[i] + GUARD - written) != 0) return 0;
   }
@@ -160,8 +162,8 @@ static void report(struct call c) {
   shrink(&c, in);
   same(&c);
   printf("difference %lu, call %s:\n", differences, kind_name[c.kind]);
-  if (c.kind != FIND) show_bytes("state 0-41", c.state, 42);
-  for (int i = 42; i < LINEBOX_STATE; i++)
+  if (c.kind != FIND) show_bytes("state 0-45", c.state, 46);
+  for (int i = 46; i < LINEBOX_STATE; i++)
     if (c.kind != FIND && c.state[i] != 0) printf("  state[%d] = %u\n", i, c.state[i]);
   show_bytes("input", c.in, c.in_len);
   printf("  lent %lu %lu\n", (unsigned long)c.lent[0], (unsigned long)c.lent[1]);
@@ -182,7 +184,7 @@ static void compare(const struct call *c) {
     stages[c->state[23]]++;
   }
   bytes_in += c->kind == FIND ? c->in_len : model.done[1];
-  if (c->kind != FIND) bytes_out += model.done[2] + (c->kind == TU ? 0 : model.done[3]);
+  if (c->kind != FIND) bytes_out += model.done[2] + model.done[3];
 }
 
 /* ---- Host bytes ---- */
@@ -226,15 +228,47 @@ static void string_90(uint8_t s[8]) {
   }
 }
 
-/* A state's bytes for it: one number, the first code in its lowest five bits, lowest byte first. */
+/* The codes that calls are mostly made of, in strings and in text: those of A, B, X (and `/`), the shifts, a space. */
+static const uint8_t few[] = {3, 25, 29, 27, 31, 4};
+
+static uint8_t few_code(void) { return few[percent(80) ? below(3) : below(sizeof few)]; }
+
+/* The eight codes of a string of 91 to 95: mostly short and of few codes, now and then empty or long. */
+static void call_string(uint8_t s[8]) {
+  unsigned n = below(100), length = n < 6 ? 0 : n < 80 ? between(1, 3) : n < 90 ? between(4, 7) : 8;
+  memset(s, 0, 8);
+  for (unsigned i = 0; i < length; i++) s[i] = percent(92) ? few_code() : (uint8_t)between(1, 31);
+}
+
+/* A state's bytes for a string: one number, the first code in its lowest five bits, lowest byte first; and back. */
 static void put_string(uint8_t *bytes, const uint8_t s[8]) {
   memset(bytes, 0, 8);
   for (int bit = 0; bit < 40; bit++)
     if (s[bit / 5] >> bit % 5 & 1) bytes[bit / 8] |= (uint8_t)(1 << bit % 8);
 }
 
-static void broken_string(uint8_t s[8]) {
-  string_90(s);
+static void get_string(uint8_t s[8], const uint8_t *bytes) {
+  memset(s, 0, 8);
+  for (int bit = 0; bit < 40; bit++)
+    if (bytes[bit / 8] >> bit % 8 & 1) s[bit / 5] |= (uint8_t)(1 << bit % 5);
+}
+
+/* A call as it comes over the air: a string of 91 to 95 in force, or some of the few codes, now and then short of the last; how many
+   codes, at least one. */
+static unsigned calling(uint8_t codes[8], const uint8_t *state) {
+  unsigned length = 0;
+  get_string(codes, state + 64 + 8 * below(5));
+  while (length < 8 && codes[length] != 0) length++;
+  if (length == 0 || percent(30)) {
+    length = between(1, 8);
+    for (unsigned i = 0; i < length; i++) codes[i] = few_code();
+  }
+  return length > 1 && percent(15) ? length - 1 : length;
+}
+
+/* Eight codes that are near to a string, and often none. */
+static void broken_string(uint8_t s[8], void (*string)(uint8_t s[8])) {
+  string(s);
   if (percent(50)) s[below(8)] = (uint8_t)below(percent(80) ? 34 : 256);
   else s[0] = (uint8_t)below(10);
 }
@@ -261,6 +295,7 @@ static uint64_t put_number(uint8_t *out, uint8_t value) {
 /* The parameters of a write, mostly in range; how many there are. */
 static unsigned values(uint8_t id, uint8_t v[8]) {
   static const uint8_t speeds[4] = {60, 66, 75, 100}, edges[] = {0, 0, 1, 14, 32, 33, 37, 126, 127, 128, 255};
+  static const uint8_t powers[] = {0, 2, 4, 5, 6, 6, 1, 3, 7, 255};
   switch (id) {
   case 1: case 4:
     v[0] = (uint8_t)(percent(90) ? between(1, 3) : below(7));
@@ -268,19 +303,24 @@ static unsigned values(uint8_t id, uint8_t v[8]) {
     return 2;
   case 49: case 70: case 71: case 72: case 74: v[0] = (uint8_t)(percent(92) ? below(2) : below(256)); return 1;
   case 50: v[0] = (uint8_t)(percent(60) ? 10 : percent(70) ? between(8, 82) : below(256)); return 1;
+  case 53: v[0] = powers[percent(80) ? below(6) : below(sizeof powers)]; return 1;
   case 77:
     v[0] = percent(75) ? stand_in() : percent(70) ? edges[below(sizeof edges)] : (uint8_t)below(256);
     return 1;
   case 90:
     if (percent(80)) string_90(v);
-    else broken_string(v);
+    else broken_string(v, string_90);
+    return 8;
+  case 91: case 92: case 93: case 94: case 95:
+    if (percent(80)) call_string(v);
+    else broken_string(v, call_string);
     return 8;
   default: return 0;
   }
 }
 
-static const uint8_t ids[] = {0,  1,  1,  1,  4,  4,  4,  10, 11, 49, 49, 50, 50, 70,
-                              70, 71, 71, 72, 72, 74, 74, 77, 77, 77, 90, 90, 90, 250};
+static const uint8_t ids[] = {0,  1,  1,  1,  4,  4,  4,  10, 11, 49, 49, 50, 50, 53, 53, 53, 70, 70,
+                              71, 71, 72, 72, 74, 74, 77, 77, 77, 90, 90, 90, 91, 92, 93, 94, 95, 250};
 
 /* A command with its end; now and then broken. */
 static uint64_t command(uint8_t *out) {
@@ -314,12 +354,26 @@ static uint64_t command(uint8_t *out) {
 
 enum { LONGEST_COMMAND = 200 };
 
-/* Host bytes: runs of text with commands among them. At most `most` bytes, `most` over LONGEST_COMMAND. */
-static uint64_t host_bytes(uint8_t *out, uint64_t most) {
+/* Text that asks for a code, in letters or figures. */
+static uint8_t text_of(uint8_t code) {
+  static const char rows[2][33] = {"\0E\nA SIU\rDRJNFCKTZLWHYPQOBG\16MXV\17", "\0" "3\n- \a87\r$4',!:(5\")2#6019?&\16./;\17"};
+  return (uint8_t)rows[percent(50)][code];
+}
+
+static uint64_t call_text(uint8_t *out, const uint8_t *state) {
+  uint8_t codes[8];
+  unsigned n = calling(codes, state);
+  for (unsigned i = 0; i < n; i++) out[i] = text_of(codes[i]);
+  return n;
+}
+
+/* Host bytes for a state: runs of text with calls and commands among them. At most `most` bytes, `most` over LONGEST_COMMAND. */
+static uint64_t host_bytes(uint8_t *out, uint64_t most, const uint8_t *state) {
   uint64_t n = 0;
-  unsigned of_commands = percent(50) ? 10 : below(90);
+  unsigned of_commands = percent(50) ? 10 : below(90), of_calls = percent(50) ? 80 : 10;
   while (n + LONGEST_COMMAND < most) {
     if (percent(of_commands)) n += command(out + n);
+    else if (percent(of_calls)) n += call_text(out + n, state);
     else if (percent(2)) for (unsigned k = between(1, 90); k > 0 && n + LONGEST_COMMAND < most; k--) out[n++] = 'A';
     else for (unsigned k = between(1, 12); k > 0; k--) out[n++] = text_byte();
     if (n > LONGEST_COMMAND && percent(1)) break;
@@ -329,8 +383,10 @@ static uint64_t host_bytes(uint8_t *out, uint64_t most) {
 
 /* ---- Codes ---- */
 
-static uint64_t code_bytes(uint8_t *out, uint64_t n) {
-  unsigned over = percent(15) ? 3 : 0;
+/* Codes for a state, and calls among them. */
+static uint64_t code_bytes(uint8_t *out, uint64_t n, const uint8_t *state) {
+  unsigned over = percent(15) ? 3 : 0, of_calls = percent(50) ? 50 : 3;
+  uint8_t codes[8];
   for (uint64_t i = 0; i < n; i++) {
     unsigned k = below(100);
     if (percent(over)) out[i] = (uint8_t)(percent(50) ? 32 : between(32, 255));
@@ -341,6 +397,11 @@ static uint64_t code_bytes(uint8_t *out, uint64_t n) {
     else if (k < 52) out[i] = 5;
     else out[i] = (uint8_t)below(32);
     if (i > 0 && percent(8)) out[i] = out[i - 1];
+    if (i + 8 <= n && percent(of_calls)) {
+      unsigned length = calling(codes, state);
+      memcpy(out + i, codes, length);
+      i += length - 1;
+    }
   }
   return n;
 }
@@ -365,6 +426,30 @@ static void random_reader(uint8_t *s) {
     if (s[26] < 11 && s[25] == 0) field[s[26]] = 0;
     if (s[26] < 11 && s[25] == 2) field[s[26]] = 255;
   }
+}
+
+/* Makes a string the end of another, or the same. */
+static void end_of(uint8_t s[8], const uint8_t from[8], unsigned without) {
+  memset(s, 0, 8);
+  memcpy(s, from + without, 8 - without);
+}
+
+/* 53, strings 91 to 95, now and then alike, and what was heard of them. */
+static void random_calls(uint8_t *s) {
+  static const uint8_t powers[] = {0, 2, 4, 5, 6};
+  uint8_t strings[5][8], heard[8] = {0};
+  for (int i = 0; i < 5; i++) call_string(strings[i]);
+  if (percent(12)) end_of(strings[1], strings[2], below(2));
+  if (percent(12)) end_of(strings[0], strings[1], below(2));
+  if (percent(12)) end_of(strings[3], strings[2], below(3));
+  if (percent(12)) end_of(strings[4], strings[3], below(3));
+  if (percent(85))
+    for (int i = 0; i < 5; i++) put_string(s + 64 + 8 * i, strings[i]);
+  for (int i = (int)below(9); i < 8; i++) heard[i] = percent(90) ? few_code() : (uint8_t)below(32);
+  put_string(s + 56, heard);
+  s[39] = percent(90) ? powers[between(1, 4)] : 0;
+  s[44] = (uint8_t)percent(40);
+  if (!s[44]) s[45] = (uint8_t)(percent(40) ? 0 : below(10));
 }
 
 /* A sound state that a box can well be in. */
@@ -392,6 +477,7 @@ static void random_state(uint8_t *s) {
   s[21] = (uint8_t)between(1, 2);
   s[22] = (uint8_t)between(1, 2);
   if (percent(50)) s[41] = stand_in();
+  if (percent(70)) random_calls(s);
   random_reader(s);
 }
 
@@ -401,15 +487,58 @@ static void any_fields(uint8_t *s) {
     if (percent(60)) s[i] = (uint8_t)below(256);
 }
 
-static void damage(uint8_t *s) {
-  if (percent(20)) { /* one of the upper 24 bits of string 90's number, and nothing else */
-    s[between(11, 13)] |= (uint8_t)(1 << below(8));
-    return;
+/* Bytes that hold 0. */
+static int is_spare(int at) { return at == 38 || at == 40 || at == 42 || at == 43 || (at >= 46 && at < 56) || at >= 104; }
+
+enum { BITS_90, BITS_HEARD, BITS_CALL, AFTER_0, POWER, MOTOR, CALL, CALL_ON, SPARE, ANY, DAMAGES };
+static const char *const damage_name[DAMAGES] = {"upper bits of string 90",
+                                                 "upper bits of the codes heard",
+                                                 "upper bits of a string of 91 to 95",
+                                                 "a code after a 0 in a string of 91 to 95",
+                                                 "53",
+                                                 "the motor's byte",
+                                                 "the call's byte",
+                                                 "the call's byte while the motor is on",
+                                                 "a byte that is not 0",
+                                                 "any bytes"};
+static unsigned long refused[DAMAGES];
+
+/* One thing wrong with a sound state, and which. */
+static int damage(uint8_t *s) {
+  int how = (int)below(DAMAGES), at = 0;
+  uint8_t upper = (uint8_t)(1 << below(8)), codes[8];
+  switch (how) {
+  case BITS_90: s[between(11, 13)] |= upper; break;
+  case BITS_HEARD: s[between(61, 63)] |= upper; break;
+  case BITS_CALL: s[64 + 8 * below(5) + between(5, 7)] |= upper; break;
+  case AFTER_0:
+    at = 64 + 8 * (int)below(5);
+    call_string(codes);
+    codes[below(7)] = 0;
+    codes[7] = (uint8_t)between(1, 31);
+    put_string(s + at, codes);
+    break;
+  case POWER: s[39] = (uint8_t[]){1, 3, 7, 255}[below(4)]; break;
+  case MOTOR: s[44] = (uint8_t)(percent(50) ? 2 : between(2, 255)); break;
+  case CALL:
+    s[44] = 0;
+    s[45] = (uint8_t)(percent(50) ? 10 : between(10, 255));
+    break;
+  case CALL_ON:
+    s[44] = 1;
+    s[45] = (uint8_t)between(1, 9);
+    break;
+  case SPARE:
+    while (!is_spare(at)) at = between(38, 127);
+    s[at] = (uint8_t)(percent(50) ? 1 : between(1, 255));
+    break;
+  default:
+    for (unsigned n = between(1, 3); n > 0; n--) {
+      at = (int)(percent(80) ? below(46) : below(LINEBOX_STATE));
+      s[at] = (uint8_t)(percent(50) ? s[at] + 1u : percent(50) ? below(13) : below(256));
+    }
   }
-  for (unsigned n = between(1, 3); n > 0; n--) {
-    unsigned at = percent(80) ? below(42) : below(LINEBOX_STATE);
-    s[at] = (uint8_t)(percent(50) ? s[at] + 1 : percent(50) ? below(13) : below(256));
-  }
+  return how;
 }
 
 /* ---- Random calls ---- */
@@ -422,7 +551,7 @@ static uint64_t lend(uint64_t need, int *null_lent) {
   case 2: return below((unsigned)need + 1);
   case 3: return need > 0 ? need - 1 : 0;
   case 4: case 5: return need;
-  case 6: return percent(50) ? 16 : 36;
+  case 6: return (uint64_t[]){16, 17, 37}[below(3)];
   case 7: return need + below(45);
   default: return need + 45 + below(40);
   }
@@ -433,16 +562,17 @@ static void lend_both(struct call *c) {
   c->lent[0] = c->lent[1] = ROOM - 2 * GUARD;
   memcpy(model.state + GUARD, c->state, LINEBOX_STATE);
   make(c, &model, 1);
-  uint64_t need[2] = {model.done[2], c->kind == TU ? 0 : model.done[3]};
+  uint64_t need[2] = {model.done[2], model.done[3]};
   for (int i = 0; i < 2; i++) {
     c->lent[i] = lend(need[i], &c->null_lent[i]);
     if (percent(50)) c->lent[i] = need[i] + 40; /* one of the two at a time is often the narrow one */
   }
+  if (c->kind == TU && percent(40)) c->lent[1] = below(41);
 }
 
 static uint64_t fill_input(struct call *c, uint8_t *in, uint64_t most) {
-  if (c->kind == HOST) return host_bytes(in, most);
-  return code_bytes(in, below((unsigned)most / 4));
+  if (c->kind == HOST) return host_bytes(in, most, c->state);
+  return code_bytes(in, below((unsigned)most / 4), c->state);
 }
 
 static int call_kind(const uint8_t *state) {
@@ -455,10 +585,11 @@ static int call_kind(const uint8_t *state) {
 static void session(void) {
   static uint8_t in[1024];
   struct call c;
+  int damaged = -1;
   random_state(c.state);
   if (percent(15)) model_fresh(c.state);
   if (percent(10)) any_fields(c.state);
-  if (percent(10)) damage(c.state);
+  if (percent(10)) damaged = damage(c.state);
   for (unsigned n = between(1, 14); n > 0; n--) {
     c.kind = call_kind(c.state);
     c.in = in;
@@ -470,6 +601,7 @@ static void session(void) {
       lend_both(&c);
       compare(&c);
       memcpy(c.state, model.state + GUARD, LINEBOX_STATE);
+      if (model.answer == 3 && damaged >= 0) refused[damaged]++;
       if (model.answer == 0 || model.answer == 3) break;
       uint64_t skip = model.done[1] + (model.answer == 2);
       c.in += skip;
@@ -487,7 +619,7 @@ static void every_damage(void) {
   for (int at = 0; at < LINEBOX_STATE; at++) {
     for (unsigned value = 0; value < 256; value++) {
       struct call c = {.kind = (int)below(3), .lent = {60, 60}};
-      if (at >= 38 && at != 41 && value > 3 && value != 128 && value != 255) continue;
+      if (is_spare(at) && value > 3 && value != 128 && value != 255) continue;
       memcpy(c.state, base, LINEBOX_STATE);
       c.state[at] = (uint8_t)value;
       c.in = c.kind == HOST ? host_in : codes;
@@ -516,7 +648,7 @@ static void every_cutting(void) {
   for (uint64_t i = 0; i < c.in_len && c.kind != HOST; i++) in[i] &= 31;
   c.in = in;
   compare(&c);
-  uint64_t n = c.in_len, made[2] = {archive.done[2], c.kind == TU ? 0 : archive.done[3]};
+  uint64_t n = c.in_len, made[2] = {archive.done[2], archive.done[3]};
   memcpy(after, archive.state + GUARD, LINEBOX_STATE);
   for (int i = 0; i < 2; i++) memcpy(whole[i], archive.buffer[i] + GUARD, made[i]);
   for (uint64_t cut = 0; cut <= n; cut++) {
@@ -527,7 +659,7 @@ static void every_cutting(void) {
       c.in_len = part == 0 ? cut : n - cut;
       compare(&c);
       append(parts[0], &got[0], archive.buffer[0] + GUARD, archive.done[2]);
-      if (c.kind != TU) append(parts[1], &got[1], archive.buffer[1] + GUARD, archive.done[3]);
+      append(parts[1], &got[1], archive.buffer[1] + GUARD, archive.done[3]);
       memcpy(c.state, archive.state + GUARD, LINEBOX_STATE);
     }
     if (memcmp(c.state, after, LINEBOX_STATE) != 0 || got[0] != made[0] || got[1] != made[1] ||
@@ -547,7 +679,7 @@ static void every_room(void) {
   c.in = in;
   c.in_len = fill_input(&c, in, 240);
   compare(&c);
-  uint64_t need[2] = {model.done[2], c.kind == TU ? 0 : model.done[3]};
+  uint64_t need[2] = {model.done[2], model.done[3]};
   for (int i = 0; i < 2; i++) {
     for (uint64_t room = 0; room <= need[i] + 1; room++) {
       c.lent[0] = c.lent[1] = 4000;
@@ -568,12 +700,12 @@ static void many_bytes(int small) {
     c.in = in;
     c.in_len = 0;
     uint64_t most = small ? 3000 : 64000;
-    while (c.kind == HOST && c.in_len + 1000 < most) c.in_len += host_bytes(in + c.in_len, most - c.in_len);
-    if (c.kind != HOST) c.in_len = code_bytes(in, most);
+    while (c.kind == HOST && c.in_len + 1000 < most) c.in_len += host_bytes(in + c.in_len, most - c.in_len, c.state);
+    if (c.kind != HOST) c.in_len = code_bytes(in, most, c.state);
     for (uint64_t i = 0; i < c.in_len && c.kind != HOST; i++) in[i] &= 31;
     do {
-      c.lent[0] = small ? (c.kind == LINE ? 36 : 16) : ROOM - 2 * GUARD;
-      c.lent[1] = small ? (c.kind == LINE ? 1 : 36) : ROOM - 2 * GUARD;
+      c.lent[0] = small ? (c.kind == LINE ? 37 : 16) : ROOM - 2 * GUARD;
+      c.lent[1] = small ? (c.kind == LINE ? 1 : c.kind == TU ? 17 : 37) : ROOM - 2 * GUARD;
       c.null_lent[0] = c.null_lent[1] = 0;
       compare(&c);
       memcpy(c.state, model.state + GUARD, LINEBOX_STATE);
@@ -682,6 +814,10 @@ static int summary(void) {
   for (int e = 0; e < SEEN_EVENTS; e++) {
     printf("%9lu  %s\n", model_seen[e], events[e]);
     if (model_seen[e] < 100) thin = 1;
+  }
+  for (int d = 0; d < DAMAGES; d++) {
+    printf("%9lu  states refused for %s\n", refused[d], damage_name[d]);
+    if (refused[d] < 100) thin = 1;
   }
   if (thin) printf("something was met fewer than 100 times\n");
   printf("compare: %lu calls, %lu differences\n", all, differences);

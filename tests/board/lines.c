@@ -74,6 +74,8 @@ static const char *shown(const uint8_t *bytes, uint64_t n) {
 #define LIMIT_10 ON("49") "/.TW,50,1,10\r"
 #define STRING(codes) "/.TW,90,8," codes "\r"
 #define STAND_IN(value) "/.TW,77,1," value "\r"
+#define POWER(value) "/.TW,53,1," value "\r"
+#define CALL(id, codes) "/.TW," id ",8," codes "\r"
 #define TEN "\rABCDEFGHIJ" /* a return and ten letters */
 
 struct trace {
@@ -244,7 +246,8 @@ static const struct trace commands[] = {
     {"000 49 read", ON("49"), "/.TR,49,0", "-.TC,49,1,1"},
     {"000 50 read, factory", "", "/.TR,50,0", "-.TC,50,1,72"},
     {"000 52 is not built", "", "/.TR,52,0", "-.TC,255,2,52,2"},
-    {"000 53 is not built", "", "/.TR,53,0", "-.TC,255,2,53,2"},
+    {"000 53", "", "/.TW,53,1,2", "-.TC,53,1,2"},
+    {"000 53 read, factory", "", "/.TR,53,0", "-.TC,53,1,0"},
     {"000 70", "", "/.TW,70,1,1", "-.TC,70,1,1"},
     {"000 70 read", "", "/.TR,70,0", "-.TC,70,1,0"},
     {"000 71", "", "/.TW,71,1,1", "-.TC,71,1,1"},
@@ -258,11 +261,13 @@ static const struct trace commands[] = {
     {"000 90", "", "/.TW,90,8,8,8,2,31,31,0,0,0", "-.TC,90,8,8,8,2,31,31,0,0,0"},
     {"000 90 read, factory", "", "/.TR,90,0", "-.TC,90,8,8,8,2,31,31,0,0,0"},
     {"000 note 20, a string with no CR", "", "/.TW,90,8,31,16,16,21,27,23,0,0", "-.TC,255,2,90,5"},
-    {"000 91 is not built", "", "/.TR,91,0", "-.TC,255,2,91,2"},
-    {"000 92 is not built", "", "/.TW,92,8,2,12,12,12,12,0,0,0", "-.TC,255,2,92,2"},
-    {"000 93 is not built", "", "/.TR,93,0", "-.TC,255,2,93,2"},
-    {"000 94 is not built", "", "/.TR,94,0", "-.TC,255,2,94,2"},
-    {"000 95 is not built", "", "/.TR,95,0", "-.TC,255,2,95,2"},
+    {"000 91 read, factory", "", "/.TR,91,0", "-.TC,91,8,4,4,4,4,4,8,8,2"},
+    {"000 92", "", "/.TW,92,8,2,12,12,12,12,0,0,0", "-.TC,92,8,2,12,12,12,12,0,0,0"},
+    {"000 92 read, factory", "", "/.TR,92,0", "-.TC,92,8,2,12,12,12,12,0,0,0"},
+    {"000 93 read, factory", "", "/.TR,93,0", "-.TC,93,8,4,4,4,4,4,8,8,2"},
+    {"000 94 read, factory", "", "/.TR,94,0", "-.TC,94,8,16,16,21,14,24,12,12,0"},
+    {"000 95 read, factory", "", "/.TR,95,0", "-.TC,95,8,17,14,17,14,0,0,0,0"},
+    {"000 note 20, its second string", "", "/.TW,94,8,31,16,16,21,27,23,0,0", "-.TC,94,8,31,16,16,21,27,23,0,0"},
     {"000 250", "", "/.TW,250,0", "-.TC,250,0"},
     {"000 250 puts 50 back", "/.TW,50,1,20\r/.TW,250,0\r", "/.TR,50,0", "-.TC,50,1,72"},
     {"000 appendix 8, version", "", "/.TR,0,0", "-.TC,0,4,0,0,1,0"},
@@ -352,12 +357,120 @@ static const struct trace commands[] = {
     {"77, error 3", "", "/.TW,77,2,45,45", "-.TC,255,2,77,3"},
     {"77, an error changes nothing", STAND_IN("45") STAND_IN("37"), "/.TR,77,0", "-.TC,77,1,45"},
     {"250 puts 77 back", STAND_IN("45") "/.TW,250,0\r", "/.TR,77,0", "-.TC,77,1,0"},
+    /* the motor */
+    {"53 read", POWER("6"), "/.TR,53,0", "-.TC,53,1,6"},
+    {"53, 1", "", "/.TW,53,1,1", "-.TC,255,2,53,5"},
+    {"53, 3", "", "/.TW,53,1,3", "-.TC,255,2,53,5"},
+    {"53 most", "", "/.TW,53,1,6", "-.TC,53,1,6"},
+    {"53 above", "", "/.TW,53,1,7", "-.TC,255,2,53,5"},
+    {"53, error 4 before 5", "", "/.TW,53,1,7,1", "-.TC,255,2,53,4"},
+    {"53, an error changes nothing", POWER("4") POWER("3"), "/.TR,53,0", "-.TC,53,1,4"},
+    {"91 empty", "", "/.TW,91,8,0,0,0,0,0,0,0,0", "-.TC,91,8,0,0,0,0,0,0,0,0"},
+    {"92, a code over 31", "", "/.TW,92,8,3,32,0,0,0,0,0,0", "-.TC,255,2,92,5"},
+    {"93, a code after a 0", "", "/.TW,93,8,3,0,3,0,0,0,0,0", "-.TC,255,2,93,5"},
+    {"94, the last after a 0", "", "/.TW,94,8,0,0,0,0,0,0,0,3", "-.TC,255,2,94,5"},
+    {"95, eight codes", "", "/.TW,95,8,31,30,29,28,27,1,2,31", "-.TC,95,8,31,30,29,28,27,1,2,31"},
+    {"91 read, the longest message", CALL("91", "16,17,18,19,20,21,22,23"), "/.TR,91,0", "-.TC,91,8,16,17,18,19,20,21,22,23"},
+    {"95, seven parameters", "", "/.TW,95,7,3,0,0,0,0,0,0", "-.TC,255,2,95,3"},
+    {"each string has its own place", CALL("93", "1,0,0,0,0,0,0,0") CALL("95", "2,0,0,0,0,0,0,0"), "/.TR,94,0",
+     "-.TC,94,8,16,16,21,14,24,12,12,0"},
+    {"94, an error changes nothing", CALL("94", "3,0,0,0,0,0,0,0") CALL("94", "32,0,0,0,0,0,0,0"), "/.TR,94,0",
+     "-.TC,94,8,3,0,0,0,0,0,0,0"},
+    {"250 puts 53 back", POWER("5") "/.TW,250,0\r", "/.TR,53,0", "-.TC,53,1,0"},
+    {"250 puts 95 back", CALL("95", "3,0,0,0,0,0,0,0") "/.TW,250,0\r", "/.TR,95,0", "-.TC,95,8,17,14,17,14,0,0,0,0"},
+    {"connecting leaves 53", POWER("5") MODE_1, "/.TR,53,0", "-.TC,53,1,5"},
+    {"20 read is not built", "", "/.TR,20,0", "-.TC,255,2,20,2"},
+    {"96 is not built", "", "/.TR,96,0", "-.TC,255,2,96,2"},
     {"76 is not built", "", "/.TW,76,1,0", "-.TC,255,2,76,2"},
     {"76 read is not built", "", "/.TR,76,0", "-.TC,255,2,76,2"},
     {"78 is not built", "", "/.TW,78,1,0", "-.TC,255,2,78,2"},
     {"78 read is not built", "", "/.TR,78,0", "-.TC,255,2,78,2"},
     {"79 is not built", "", "/.TW,79,1,0", "-.TC,255,2,79,2"},
     {"79 read is not built", "", "/.TR,79,0", "-.TC,255,2,79,2"},
+};
+
+/* 91 is AB, 92 DE, 93 CC, 94 AD, 95 BD. */
+#define CALLS                                                                                                          \
+  CALL("91", "3,25,0,0,0,0,0,0") CALL("92", "9,1,0,0,0,0,0,0") CALL("93", "14,14,0,0,0,0,0,0")                         \
+  CALL("94", "3,9,0,0,0,0,0,0") CALL("95", "25,9,0,0,0,0,0,0")
+#define A_CALL(id, codes) MODE_1 CALLS POWER("2") CALL(id, codes)
+#define A_STATION(id, codes) MODE_1 CALLS POWER("4") CALL(id, codes)
+
+/* Host bytes, and the same with + after one on which the motor starts, - where it stops, ? for any other message. */
+static const struct trace heard_text[] = {
+    {"53 at 0 hears nothing", MODE_1 CALLS, "ABDECCADE", "ABDECCADE"},
+    {"53 at 2 starts on 91, 92 stops", MODE_1 CALLS POWER("2"), "ABDEAB", "AB+DE-AB+"},
+    {"53 at 2, not on 94 or 95", MODE_1 CALLS POWER("2"), "CCADCCBD", "CCADCCBD"},
+    {"53 at 4 starts on 94 after 93", MODE_1 CALLS POWER("4"), "CCADE", "CCAD+E-"},
+    {"53 at 4, not on 91 or 95", MODE_1 CALLS POWER("4"), "ABCCBDAB", "ABCCBDAB"},
+    {"53 at 5 starts on 95 after 93", MODE_1 CALLS POWER("5"), "CCADBDE", "CCADBD+E-"},
+    {"53 at 6 starts on either", MODE_1 CALLS POWER("6"), "CCADECCBDE", "CCAD+E-CCBD+E-"},
+    {"53 at 6, not without 93", MODE_1 CALLS POWER("6"), "ADBDAB", "ADBDAB"},
+    {"the factory's strings, 53 at 2", MODE_1 POWER("2"), "     \r\r\n\nNNNN", "     \\r\\r\\n+\\nNNNN-"},
+    {"the factory's strings, 53 at 4", MODE_1 POWER("4"), "     \r\r\nTTYCONN\nNNNN", "     \\r\\r\\nTTYCONN+\\nNNNN-"},
+    {"the factory's strings, 53 at 5", MODE_1 POWER("5"), "     \r\r\nZCZC\nNNNN", "     \\r\\r\\nZCZC+\\nNNNN-"},
+    /* what counts */
+    {"a 94 begun before the 93 ended", A_STATION("93", "14,3,0,0,0,0,0,0"), "CADAD", "CADAD+"},
+    {"codes between 93 and 94", MODE_1 CALLS POWER("4"), "CCFFFFFFFFFFFFFFFFFFFFAD", "CCFFFFFFFFFFFFFFFFFFFFAD+"},
+    {"a 94 of eight codes, right after", A_STATION("94", "3,3,3,3,3,3,3,3"), "ACCAAAAAAAA", "ACCAAAAAAAA+"},
+    {"a 91 of eight codes, each of them counts", A_CALL("91", "14,3,3,3,3,3,3,3"), "BAAAAAAACAAAAAAA", "BAAAAAAACAAAAAAA+"},
+    {"the first 93 serves", A_STATION("94", "14,14,3,0,0,0,0,0"), "CCCCA", "CCCCA+"},
+    {"but not one code of it", A_STATION("94", "14,14,3,0,0,0,0,0"), "CCCA", "CCCA"},
+    {"a 93 serves once", MODE_1 CALLS POWER("4"), "CCADEADCCAD", "CCAD+E-ADCCAD+"},
+    {"a 93 heard while on does not count", MODE_1 CALLS POWER("4"), "CCADCCDEAD", "CCAD+CCDE-AD"},
+    {"a 93 begun before the stop counts", A_STATION("93", "1,14,0,0,0,0,0,0"), "ECADECAD", "ECAD+E-CAD+"},
+    {"one on the stop's own code does not", A_STATION("93", "9,1,0,0,0,0,0,0"), "DEADEADDEAD", "DEAD+E-ADDEAD+"},
+    {"nor a longer one", A_STATION("93", "3,9,1,0,0,0,0,0"), "ADEADEADADEAD", "ADEAD+E-ADADEAD+"},
+    {"a stop that uses codes from before the start", A_CALL("92", "3,25,14,0,0,0,0,0"), "ABC", "AB+C-"},
+    {"a start that uses codes of the stop", A_CALL("91", "1,25,0,0,0,0,0,0"), "EBDEB", "EB+DE-B+"},
+    {"91 and 92 alike", A_CALL("91", "9,1,0,0,0,0,0,0"), "DEDEDE", "DE+DE-DE+"},
+    {"91 empty", A_CALL("91", "0,0,0,0,0,0,0,0"), "AB", "AB"},
+    {"92 empty", A_CALL("92", "0,0,0,0,0,0,0,0"), "ABDE", "AB+DE"},
+    {"93 empty", A_STATION("93", "0,0,0,0,0,0,0,0"), "CCAD", "CCAD"},
+    /* what is heard */
+    {"the case is not compared", A_CALL("91", "3,23,0,0,0,0,0,0"), "A1aQ", "A1+aQ"},
+    {"an added shift is not heard", A_CALL("91", "3,25,23,0,0,0,0,0"), "AB1", "AB1+"},
+    {"nor LTRS after a space", ON("70") A_CALL("91", "4,3,0,0,0,0,0,0"), "1 A", "1 A+"},
+    {"nor an ending", LIMIT_10 A_CALL("91", "11,15,0,0,0,0,0,0"), TEN "K", "\\rABCDEFGHIJK+"},
+    {"not even the start in it", LIMIT_10 A_CALL("91", "8,2,31,31,0,0,0,0"), TEN "K", "\\rABCDEFGHIJK"},
+    {"SO and SI are heard", A_CALL("91", "27,31,0,0,0,0,0,0"), "\016\017", "\016\017+"},
+    {"even one dropped by 72", ON("72") A_CALL("91", "27,27,0,0,0,0,0,0"), "\016\016", "\016\016+"},
+    {"a byte without a code is not", A_CALL("91", "3,25,0,0,0,0,0,0"), "A~B", "A~B+"},
+    {"its stand-in is", STAND_IN("45") A_CALL("91", "3,3,0,0,0,0,0,0"), "A~", "A~+"},
+    {"port 4 hears nothing", "/.TW,1,2,4,60\r" CALLS POWER("2"), "ABDE", "ABDE"},
+    {"mode 11 neither", CALLS POWER("2"), "ABDE", "ABDE"},
+    {"nor the host's text in mode 4", MODE_4 CALLS POWER("2"), "ABDE", "ABDE"},
+    /* / and its follower */
+    {"two messages from one byte", A_CALL("91", "29,0,0,0,0,0,0,0") CALL("92", "3,0,0,0,0,0,0,0"), "/A", "/A+-"},
+    {"on and off again", A_CALL("91", "29,0,0,0,0,0,0,0") CALL("92", "29,0,0,0,0,0,0,0"), "//A", "//+A-"},
+    {"a / that begins a command is not heard", A_CALL("91", "29,0,0,0,0,0,0,0"), "/.TR,0,0\r", "/.TR,0,0\\r?"},
+    /* what is forgotten */
+    {"a read forgets nothing", MODE_1 CALLS POWER("2"), "A/.TR,91,0\rB/.TR,53,0\rDE", "A/.TR,91,0\\r?B+/.TR,53,0\\r?DE-"},
+    {"nor writing another setting", MODE_1 CALLS POWER("2"), "A" ON("49") "B" STRING("8,2,0,0,0,0,0,0") "DE",
+     "A/.TW,49,1,1\\r?B+/.TW,90,8,8,2,0,0,0,0,0,0\\r?DE-"},
+    {"a refused 53 neither", MODE_1 CALLS POWER("2"), "A" POWER("3") "B" POWER("7") "DE", "A/.TW,53,1,3\\r?B+/.TW,53,1,7\\r?DE-"},
+    {"a refused string neither", MODE_1 CALLS POWER("2"), "AB" CALL("92", "32,0,0,0,0,0,0,0") "DE",
+     "AB+/.TW,92,8,32,0,0,0,0,0,0,0\\r?DE-"},
+    {"a refused connection neither", MODE_1 CALLS POWER("2"), "AB/.TW,1,2,5,60\rDE", "AB+/.TW,1,2,5,60\\r?DE-"},
+    {"53 written as it was", MODE_1 CALLS POWER("2"), "AB" POWER("2") "DEA" POWER("2") "BAB",
+     "AB+/.TW,53,1,2\\r?DEA/.TW,53,1,2\\r?BAB+"},
+    {"a 93 is forgotten", MODE_1 CALLS POWER("4"), "CC" POWER("4") "ADCCAD", "CC/.TW,53,1,4\\r?ADCCAD+"},
+    {"a connection as it was", MODE_1 CALLS POWER("2"), "AB" MODE_1 "DEA" MODE_1 "B",
+     "AB+/.TW,1,2,1,60\\r?DEA/.TW,1,2,1,60\\r?B"},
+    {"mode 10 and back", MODE_1 CALLS POWER("2"), "AB/.TW,10,0\r" MODE_1 "DE", "AB+/.TW,10,0\\r?/.TW,1,2,1,60\\r?DE"},
+    {"250", MODE_1 CALLS POWER("2"), "AB/.TW,250,0\rDE", "AB+/.TW,250,0\\r?DE"},
+};
+
+/* TU codes, and the same with + and -. */
+static const struct trace heard_codes[] = {
+    {"mode 4", MODE_4 CALLS POWER("4"), "14 14 3 9 1", "14 14 3 9+ 1-"},
+    {"mode 4, 53 at 0", MODE_4 CALLS, "3 25 9 1", "3 25 9 1"},
+    {"BLANK is heard", MODE_4 CALLS POWER("2"), "3 0 25 3 25", "3 0 25 3 25+"},
+    {"shifts are heard", MODE_4 CALLS POWER("2"), "3 31 25 3 25", "3 31 25 3 25+"},
+    {"even those dropped by 72", MODE_4 ON("72") CALLS POWER("2") CALL("91", "31,31,31,0,0,0,0,0"), "31 31 31", "31 31 31+"},
+    {"the case is not compared, mode 4", MODE_4 CALLS POWER("2"), "27 3 25 27 9 1", "27 3 25+ 27 9 1-"},
+    {"an ending is not heard, mode 4", MODE_4 LIMIT_10 CALLS POWER("2"), "8 5 5 5 5 5 5 5 5 5 3 25", "8 5 5 5 5 5 5 5 5 5 3 25+"},
+    {"mode 1 hears no TU codes", MODE_1 CALLS POWER("2"), "3 25", "3 25"},
 };
 
 /* "ASCII-67 to Baudot-USTTY": row i is for bytes i, 32 + i, 64 + i and 96 + i; L and F after a shift, N without. */
@@ -415,9 +528,51 @@ static void run_tu_line(const struct trace *t) {
   uint8_t codes[ROOM];
   uint64_t n = parse(t->input, codes);
   start(t->setup);
-  uint32_t answer = linebox_tu(state, codes, n, first, ROOM, done);
+  uint32_t answer = linebox_tu(state, codes, n, first, ROOM, second, ROOM, done);
   const char *got = decimals(first, done[1]);
-  check(answer == 0 && done[0] == n && strcmp(got, t->expected) == 0, t->name, t->expected, got);
+  int good = answer == 0 && done[0] == n && done[2] == 0 && strcmp(got, t->expected) == 0;
+  check(good, t->name, t->expected, got);
+}
+
+/* The messages in the second buffer as +, - and ?, for port 1. */
+static const char *changes(void) {
+  static char out[8];
+  uint64_t n = 0;
+  for (uint64_t at = 0; at < done[2] && n < 7; at += 17) {
+    int whole = done[2] - at >= 17;
+    if (whole && memcmp(second + at, "\r\n-.TC,20,2,1,1\r\n", 17) == 0) out[n++] = '+';
+    else if (whole && memcmp(second + at, "\r\n-.TC,20,2,1,0\r\n", 17) == 0) out[n++] = '-';
+    else return "?";
+  }
+  out[n] = 0;
+  return out;
+}
+
+static void add(char *to, const char *text) { memcpy(to + strlen(to), text, strlen(text) + 1); }
+
+static void run_heard_text(const struct trace *t) {
+  char got[ROOM] = "";
+  start(t->setup);
+  for (const char *p = t->input; *p != 0; p++) {
+    uint32_t answer = linebox_host(state, (const uint8_t *)p, 1, first, ROOM, second, ROOM, done);
+    add(got, shown((const uint8_t *)p, 1));
+    add(got, answer == 0 && done[0] == 1 ? changes() : "!");
+  }
+  check(strcmp(got, t->expected) == 0, t->name, t->expected, got);
+}
+
+static void run_heard_codes(const struct trace *t) {
+  uint8_t codes[ROOM];
+  uint64_t n = parse(t->input, codes);
+  char got[ROOM] = "";
+  start(t->setup);
+  for (uint64_t i = 0; i < n; i++) {
+    uint32_t answer = linebox_tu(state, codes + i, 1, first, ROOM, second, ROOM, done);
+    if (i > 0) add(got, " ");
+    add(got, decimals(codes + i, 1));
+    add(got, answer == 0 && done[0] == 1 ? changes() : "!");
+  }
+  check(strcmp(got, t->expected) == 0, t->name, t->expected, got);
 }
 
 static void run_line_line(const struct trace *t) {
@@ -514,7 +669,7 @@ static void run_stand_ins(void) {
     else check(answer == 3 && done[0] == 0 && done[1] == 0 && state[41] == value, name, "3: 0 0 0", got);
     answer = linebox_line(state, NULL, 0, NULL, 0, NULL, 0, done);
     check(answer == (good ? 0 : 3), name, good ? "a line call's 0" : "a line call's 3", "another");
-    answer = linebox_tu(state, NULL, 0, NULL, 0, done);
+    answer = linebox_tu(state, NULL, 0, NULL, 0, NULL, 0, done);
     check(answer == (good ? 0 : 3), name, good ? "a TU call's 0" : "a TU call's 3", "another");
   }
   check(allowed == 78, "values that 77 may have", "78", "another count");
@@ -557,10 +712,10 @@ static void run_answers(void) {
   check(answer == 2 && done[0] == 1 && done[1] == 1 && done[2] == 0, "a line code of 32, no room", "2: 1 1 0", "another");
   answer = linebox_line(state, (const uint8_t[]){1, 2, 32}, 3, first, 1, NULL, 0, done);
   check(answer == 1 && done[0] == 1 && done[1] == 1, "no room before a 32", "1: 1 1 0", "another");
-  answer = linebox_tu(state, (const uint8_t[]){1, 255}, 2, NULL, 0, done);
-  check(answer == 2 && done[0] == 1 && done[1] == 0, "a TU code of 255 in mode 1", "2: 1 0", "another");
+  answer = linebox_tu(state, (const uint8_t[]){1, 255}, 2, NULL, 0, NULL, 0, done);
+  check(answer == 2 && done[0] == 1 && done[1] == 0 && done[2] == 0, "a TU code of 255 in mode 1", "2: 1 0 0", "another");
   for (int at = 38; at < LINEBOX_STATE; at++) {
-    if (at == 41) continue;
+    if (at == 39 || at == 41 || at == 44 || at == 45 || (at >= 56 && at < 104)) continue;
     state[at] = 1;
     answer = linebox_host(state, NULL, 0, NULL, 0, NULL, 0, done);
     check(answer == 3 && state[at] == 1, "each spare byte of 1", "3", "another");
@@ -571,8 +726,8 @@ static void run_answers(void) {
   answer = linebox_host(state, (const uint8_t *)"A", 1, first, ROOM, second, ROOM, done);
   check(answer == 3 && done[0] == 0 && done[1] == 0 && done[2] == 0 && state[127] == 1, "a spare byte of 1", "3: 0 0 0",
         "another");
-  answer = linebox_tu(state, (const uint8_t[]){255}, 1, NULL, 0, done);
-  check(answer == 3 && done[0] == 0 && done[1] == 0, "3 comes before 2", "3: 0 0", "another");
+  answer = linebox_tu(state, (const uint8_t[]){255}, 1, NULL, 0, NULL, 0, done);
+  check(answer == 3 && done[0] == 0 && done[1] == 0 && done[2] == 0, "3 comes before 2", "3: 0 0 0", "another");
 }
 
 /* A keyboard that unshifts: 70 switched on between two calls, and a space that is not taken. */
@@ -588,12 +743,14 @@ static void run_typed(void) {
   check(done[1] == 3 && memcmp(first, "1 Q", 3) == 0, "and then one that is", "1 Q", shown(first, done[1]));
 }
 
-/* String 90's number in the state's bytes, as the header has it. */
-static uint64_t word(void) {
+/* The number in eight of the state's bytes, as the header has it. */
+static uint64_t word_at(int at) {
   uint64_t number = 0;
-  for (int i = 7; i >= 0; i--) number = number << 8 | state[6 + i];
+  for (int i = 7; i >= 0; i--) number = number << 8 | state[at + i];
   return number;
 }
+
+static uint64_t word(void) { return word_at(6); }
 
 /* A code in a place of string 90, LFs and a CR before it or a CR after it: written, found in the state's number, and sent in an
    ending; or refused, where it is no code or may not stand there. */
@@ -630,8 +787,8 @@ static void run_strings(void) {
     check(answer == 3 && done[0] == 0 && *byte == flag, "an upper bit, host call", "3: 0 0 0", "another");
     answer = linebox_line(state, NULL, 0, NULL, 0, NULL, 0, done);
     check(answer == 3 && *byte == flag, "an upper bit, line call", "3: 0 0 0", "another");
-    answer = linebox_tu(state, NULL, 0, NULL, 0, done);
-    check(answer == 3 && *byte == flag, "an upper bit, TU call", "3: 0 0", "another");
+    answer = linebox_tu(state, NULL, 0, NULL, 0, NULL, 0, done);
+    check(answer == 3 && *byte == flag, "an upper bit, TU call", "3: 0 0 0", "another");
     *byte = 0;
   }
   /* an older box kept a byte a code: its factory string is now none by the rules, its 8,2 another one */
@@ -643,9 +800,147 @@ static void run_strings(void) {
         shown(second, done[2]));
 }
 
+/* Each write that turns the motor off: it says nothing but its own answer, and all that was heard is forgotten. */
+static void run_forgetting(void) {
+  static const char *const writes[] = {POWER("2"), POWER("0"), CALL("91", "3,25,0,0,0,0,0,0"), CALL("92", "9,1,0,0,0,0,0,0"),
+                                       CALL("93", "14,14,0,0,0,0,0,0"), CALL("94", "3,9,0,0,0,0,0,0"),
+                                       CALL("95", "25,9,0,0,0,0,0,0"), MODE_1, MODE_4, "/.TW,10,0\r", "/.TW,11,0\r",
+                                       "/.TW,250,0\r"};
+  for (uint64_t i = 0; i < sizeof writes / sizeof *writes; i++) {
+    uint64_t n = strlen(writes[i]);
+    start(MODE_1 CALLS POWER("2"));
+    host("CCAB");
+    check(state[44] == 1 && state[45] == 0 && word_at(56) != 0, writes[i], "on before it", "another");
+    host(writes[i]);
+    int own = done[2] == n + 3 && memcmp(second, "\r\n-.TC", 6) == 0 && memcmp(second + 6, writes[i] + 4, n - 5) == 0;
+    check(own && state[44] == 0 && state[45] == 0 && word_at(56) == 0, writes[i], "off, forgotten, its own answer",
+          shown(second, done[2]));
+    host("DE");
+    check(done[2] == 0, writes[i], "nothing to stop", shown(second, done[2]));
+    start(MODE_1 CALLS POWER("4"));
+    host("CC");
+    check(state[44] == 0 && state[45] == 1, writes[i], "called before it", "another");
+    host(writes[i]);
+    check(state[45] == 0 && word_at(56) == 0, writes[i], "the call forgotten", "another");
+  }
+}
+
+/* What was heard in the state's bytes, and the message of the other ports. */
+static void run_heard(void) {
+  start(MODE_1 CALLS POWER("2"));
+  host("AC");
+  check(strcmp(decimals(state + 56, 8), "0 0 0 192 112 0 0 0") == 0, "A and C heard", "14 and 3 in the top ten of forty bits",
+        decimals(state + 56, 8));
+  host("C");
+  check(state[45] == 1, "93 is followed with 53 at 2", "1", decimals(state + 45, 1));
+  for (int since = 1; since < 20; since++) {
+    host("F");
+    check(state[45] == (since < 8 ? since + 1 : 9), "codes since 93", "one more, staying at 9", decimals(state + 45, 1));
+  }
+  host("AB");
+  check(state[44] == 1 && state[45] == 0 && word_at(56) >> 30 == (25 << 5 | 3), "started", "on, no call, B last", "another");
+  start(MODE_1 CALLS POWER("2"));
+  linebox_host(state, (const uint8_t[]){'A', 0, 'B'}, 3, first, ROOM, second, ROOM, done);
+  check(done[2] == 0 && word_at(56) >> 25 == (25 << 10 | 3), "BLANK in text is heard", "3 0 25", shown(second, done[2]));
+  start("/.TW,1,2,2,60\r" CALLS POWER("2"));
+  host("AB");
+  check(strcmp(shown(second, done[2]), "\\r\\n-.TC,20,2,2,1\\r\\n") == 0, "port 2", "-.TC,20,2,2,1", shown(second, done[2]));
+  start("/.TW,4,2,3,60\r" CALLS POWER("2"));
+  linebox_tu(state, (const uint8_t[]){3, 25, 9, 1}, 4, first, ROOM, second, ROOM, done);
+  check(strcmp(shown(second, done[2]), "\\r\\n-.TC,20,2,3,1\\r\\n\\r\\n-.TC,20,2,3,0\\r\\n") == 0, "port 3, mode 4",
+        "-.TC,20,2,3,1 and -.TC,20,2,3,0", shown(second, done[2]));
+}
+
+/* The last byte or code of a call with less room than it needs takes nothing; with enough it is taken. */
+static void run_rooms(int tu, uint8_t byte, uint64_t line_need, uint64_t host_need, const char *name) {
+  uint8_t before[LINEBOX_STATE];
+  memcpy(before, state, LINEBOX_STATE);
+  for (uint64_t room = 0; room <= line_need + host_need; room++) {
+    uint64_t line_room = room < host_need ? line_need : room - host_need, host_room = room < host_need ? room : host_need;
+    uint32_t answer = (tu ? linebox_tu : linebox_host)(state, &byte, 1, first, line_room, second, host_room, done);
+    int last = room == line_need + host_need, kept = memcmp(before, state, LINEBOX_STATE) == 0;
+    if (last) check(answer == 0 && done[0] == 1 && done[1] == line_need && done[2] == host_need, name, "taken", "another");
+    else check(answer == 1 && done[0] == 0 && done[1] == 0 && done[2] == 0 && kept, name, "no room: nothing", "another");
+  }
+}
+
+static void run_motor_rooms(void) {
+  start(MODE_4 CALLS POWER("2"));
+  linebox_tu(state, (const uint8_t[]){3}, 1, first, ROOM, NULL, 0, done);
+  run_rooms(1, 25, 1, 17, "a start needs 17 host bytes");
+  linebox_tu(state, (const uint8_t[]){27, 9}, 2, first, ROOM, NULL, 0, done);
+  run_rooms(1, 1, 1, 17, "and so does a stop");
+  start(A_CALL("91", "3,0,0,0,0,0,0,0"));
+  run_rooms(0, 'A', 2, 17, "a start by text");
+  start(A_CALL("91", "29,0,0,0,0,0,0,0") CALL("92", "3,0,0,0,0,0,0,0") "/");
+  run_rooms(0, 'A', 4, 34, "two messages from one byte need 34");
+  check(strcmp(changes(), "+-") == 0, "the two messages", "+-", changes());
+  start(CALL("91", "16,17,18,19,20,21,22,23") "/.TR,91,0");
+  run_rooms(0, '\r', 0, 37, "the longest message needs 37");
+}
+
+/* Whether the state is sound, to each of the calls. */
+static void run_sound(int good, const char *name) {
+  uint8_t before[LINEBOX_STATE];
+  memcpy(before, state, LINEBOX_STATE);
+  uint32_t by_host = linebox_host(state, (const uint8_t *)"A", (uint64_t)!good, first, ROOM, second, ROOM, done);
+  uint32_t by_line = linebox_line(state, (const uint8_t[]){3}, (uint64_t)!good, first, ROOM, second, ROOM, done);
+  uint32_t by_tu = linebox_tu(state, (const uint8_t[]){3}, (uint64_t)!good, first, ROOM, second, ROOM, done);
+  uint32_t expected = good ? 0 : 3;
+  check(by_host == expected && by_line == expected && by_tu == expected && memcmp(before, state, LINEBOX_STATE) == 0, name,
+        good ? "0 from each call" : "3 from each call", "another");
+}
+
+/* Each value of the motor's bytes; each bit of the codes heard and of strings 91 to 95. */
+static void run_motor_bytes(void) {
+  start(MODE_1);
+  for (int value = 0; value < 256; value++) {
+    state[39] = (uint8_t)value;
+    run_sound(value == 0 || value == 2 || value == 4 || value == 5 || value == 6, "53 in the state");
+    state[39] = 0;
+    state[44] = (uint8_t)value;
+    run_sound(value <= 1, "the motor in the state");
+    state[44] = 0;
+    state[45] = (uint8_t)value;
+    run_sound(value <= 9, "the call in the state");
+    state[44] = 1;
+    run_sound(value == 0, "the call while the motor is on");
+    state[44] = state[45] = 0;
+  }
+  for (int at = 56; at < 104; at += 8) {
+    for (int bit = 0; bit < 64; bit++) { /* all bits below it set: as a string, no 0 before a code */
+      memset(state + at, 0, 8);
+      for (int i = 0; i <= bit; i++) state[at + i / 8] |= (uint8_t)(1 << i % 8);
+      run_sound(bit < 40, at == 56 ? "codes heard" : "string of 91 to 95");
+      if (bit >= 40 || bit % 5 != 0) continue;
+      for (int i = 0; i < bit; i++) state[at + i / 8] &= (uint8_t)~(1 << i % 8);
+      run_sound(at == 56 || bit == 0, at == 56 ? "one code heard" : "a code after a 0 in a string");
+    }
+    memset(state + at, 0, 8);
+    run_sound(1, "nothing heard, or an empty string");
+  }
+}
+
+/* A motor handed in as on: where nothing is heard it stays so, and elsewhere 92 stops it. */
+static void run_handed_in(void) {
+  static const char *const deaf[] = {MODE_1, "/.TW,1,2,4,60\r" POWER("2"), POWER("2"), MODE_4 POWER("2")};
+  for (uint64_t i = 0; i < sizeof deaf / sizeof *deaf; i++) {
+    start(deaf[i]);
+    state[44] = 1;
+    host("A\nNNNN");
+    check(done[2] == 0 && state[44] == 1 && word_at(56) == 0, deaf[i], "on, nothing heard", shown(second, done[2]));
+  }
+  start(MODE_1 POWER("2"));
+  state[44] = 1;
+  host("A\nNNNN");
+  check(strcmp(changes(), "-") == 0 && state[44] == 0, "a motor handed in as on", "-", shown(second, done[2]));
+}
+
 /* A fresh box byte by byte, and line codes to the TU in mode 4. */
 static void run_fresh(void) {
-  static const uint8_t expected[LINEBOX_STATE] = {[1] = 72, [6] = 8, 137, 255, 1, [14] = 11, [21] = 1, 1};
+  static const uint8_t expected[LINEBOX_STATE] = {
+      [1] = 72, [6] = 8, 137, 255, 1, [14] = 11, [21] = 1, 1, [64] = 132, 16, 66, 16, 18, [72] = 130, 49, 198,
+      [80] = 132, 16, 66, 16, 18, [88] = 16, 86, 135, 25, 3, [96] = 209, 69, 7};
   memset(state, 255, LINEBOX_STATE);
   uint32_t answer = linebox_fresh(state);
   check(answer == 0 && memcmp(state, expected, LINEBOX_STATE) == 0, "a fresh box", "by the published offsets",
@@ -663,6 +958,8 @@ int main(void) {
   EACH(host_lines, run_host_line);
   EACH(tu_lines, run_tu_line);
   EACH(line_lines, run_line_line);
+  EACH(heard_text, run_heard_text);
+  EACH(heard_codes, run_heard_codes);
   EACH(commands, run_command);
   EACH(finds, run_find);
   run_ascii_table(MODE_1, "--");
@@ -672,6 +969,11 @@ int main(void) {
   run_answers();
   run_typed();
   run_strings();
+  run_forgetting();
+  run_heard();
+  run_motor_rooms();
+  run_motor_bytes();
+  run_handed_in();
   run_fresh();
   printf("lines: %u passed, %u failed\n", passed, failed);
   return failed != 0;

@@ -16,9 +16,15 @@ enum { UNKNOWN, LETTERS, FIGURES };                /* a case; as the last item: 
 enum { FIGS = 27, LTRS = 31 };
 enum { MOST = 40 }; /* one byte never makes more than this many codes or host bytes */
 
-/* The state, in the order of its published offsets 0 to 41; offsets 42 to 127 hold 0. String 90 has its eight codes here, and is one
-   number in the 128 bytes (`unpack`, `pack`). */
+/* A programmable string: its codes with zeros after them, and how many there are. */
+struct string {
+  uint8_t code[8], length;
+};
+
+/* The state: up to `motor` in the order of its published offsets, then what the box remembers in a form of the model's own (`load`,
+   `save`). A string and the codes heard are eight codes here, and one number in the 128 bytes (`unpack`, `pack`). */
 enum { FIELDS = 11 };
+enum { SOM, EOM, CONDITIONING, STATION, ALL, CALLS }; /* strings 91 to 95, as the paper calls them */
 struct box {
   uint8_t endings, limit, on_space, on_return, filter, report, string[8]; /* 49, 50, 70, 71, 72, 74, 90 */
   uint8_t mode, port, speed;
@@ -26,13 +32,19 @@ struct box {
   uint8_t last, reading, incoming;
   uint8_t stage, note, form, count; /* the command reader */
   uint8_t field[FIELDS];
-  uint8_t unused[3]; /* 0 */
-  uint8_t stand_in;  /* 77: what text bytes without a code are replaced by, 0 if they are dropped */
+  uint8_t id_52, power, id_76; /* 53, the motor power mode; the others are 0 */
+  uint8_t stand_in;            /* 77: what text bytes without a code are replaced by, 0 if they are dropped */
+  uint8_t id_78, id_79;        /* 0 */
+  uint8_t motor;               /* whether it is on */
+  uint8_t called, since;       /* whether string 93 has come, and how many of the codes heard came after the first */
+  uint8_t heard[8];            /* the last one last, 0 where none was heard */
+  struct string call[CALLS];
 };
-_Static_assert(sizeof(struct box) == 42 && offsetof(struct box, mode) == 14 && offsetof(struct box, printer) == 17 &&
-                   offsetof(struct box, stage) == 23 && offsetof(struct box, field) == 27 &&
-                   offsetof(struct box, stand_in) == 41,
+_Static_assert(offsetof(struct box, mode) == 14 && offsetof(struct box, printer) == 17 && offsetof(struct box, stage) == 23 &&
+                   offsetof(struct box, field) == 27 && offsetof(struct box, power) == 39 &&
+                   offsetof(struct box, stand_in) == 41 && offsetof(struct box, motor) == 44,
                "the published offsets");
+enum { AT_STRING = 6, AT_CALLED = 45, AT_HEARD = 56, AT_CALL = 64, AT_END = AT_CALL + 8 * CALLS }; /* 46 to 55 hold 0 */
 
 /* The stages of the command reader. `note` is in LETTER_1 whether the letter is small, later the type; `form` is in
    LETTER_1 whether the letter is T, in FIELD what the field holds so far; `count` is the field's place, 11 for too many. */
@@ -142,6 +154,7 @@ static inline uint8_t *item(struct box *box, uint8_t *out, uint8_t code, uint8_t
     uint8_t shift = code == LTRS ? LETTERS : FIGURES;
     if (box->filter && box->last == shift) {
       SEEN(FILTERED);
+      if (box->power != 0 && box->port != 4) SEEN(FILTERED_HEARD);
       return out;
     }
     SEEN(SHIFT_SENT);
@@ -153,96 +166,7 @@ static inline uint8_t *item(struct box *box, uint8_t *out, uint8_t code, uint8_t
   return put(box, out, code, kind);
 }
 
-static inline uint8_t *text(struct box *box, uint8_t *out, uint8_t byte) {
-  struct code c = of_byte(byte);
-  if (box->mode != 1) {
-    SEEN(NOT_CARRIED);
-    return out;
-  }
-  if (__builtin_expect(c.kind == NO_CODE, 0)) { /* seldom: text with a code goes straight on */
-    if (box->stand_in == 0) {
-      SEEN(DROPPED);
-      return out;
-    }
-    SEEN(REPLACED);
-    c = of_byte(box->stand_in);
-  }
-  return item(box, out, c.code, c.kind);
-}
-
-/* A TU code in mode 4, meant in the incoming reading case. */
-static inline uint8_t *tu_code(struct box *box, uint8_t *out, uint8_t code) {
-  uint8_t kind = kind_of[box->incoming][code];
-  out = item(box, out, code, kind);
-  if (kind == SHIFT) {
-    box->incoming = code == LTRS ? LETTERS : FIGURES;
-  } else if ((kind == SPACE && box->on_space) || (kind == RETURN && box->on_return)) {
-    if (box->incoming == FIGURES) SEEN(INCOMING_BACK);
-    box->incoming = LETTERS;
-  }
-  return out;
-}
-
-/* ---- Settings and messages ---- */
-
-static const uint8_t factory[14] = {0, 72, 0, 0, 0, 0, 8, 8, 2, 31, 31, 0, 0, 0}; /* and 77 is 0 */
-
-static int is_speed(uint8_t n) { return n == 60 || n == 66 || n == 75 || n == 100; }
-
-/* String 90: nothing but zeros from the first 0 on, and a first 8 with only LF and shifts before it. */
-static int is_string(const uint8_t s[8]) {
-  int length = 0, before = 0;
-  while (length < 8 && s[length] != 0) {
-    if (s[length] > 31) return 0;
-    length++;
-  }
-  for (int i = length; i < 8; i++)
-    if (s[i] != 0) return 0;
-  while (before < length && (s[before] == 2 || s[before] == FIGS || s[before] == LTRS)) before++;
-  return before < length && s[before] == 8;
-}
-
-/* Setting 77: 0, or an ASCII value from 33 to 126 that has a code. */
-static int is_stand_in(uint8_t n) { return n == 0 || (n >= 33 && n <= 126 && of_byte(n).kind != NO_CODE); }
-
-/* Where a setting of one value is kept, or none. */
-static uint8_t *setting(struct box *box, uint8_t id) {
-  switch (id) {
-  case 49: return &box->endings;
-  case 50: return &box->limit;
-  case 70: return &box->on_space;
-  case 71: return &box->on_return;
-  case 72: return &box->filter;
-  case 74: return &box->report;
-  case 77: return &box->stand_in;
-  default: return NULL;
-  }
-}
-
-/* How many parameters a command has, or -1 if its id is undefined for that type. */
-static int parameters(uint8_t type, uint8_t id) {
-  switch (id) {
-  case 0: return type == TR ? 0 : -1;
-  case 1: return type == TR ? 0 : 2;
-  case 4: return type == TR ? -1 : 2;
-  case 10: case 11: case 250: return type == TR ? -1 : 0;
-  case 49: case 50: case 70: case 71: case 72: case 74: case 77: return type == TR ? 0 : 1;
-  case 90: return type == TR ? 0 : 8;
-  default: return -1;
-  }
-}
-
-static int in_range(uint8_t id, const uint8_t *value) {
-  switch (id) {
-  case 1: return value[0] >= 1 && value[0] <= 4 && is_speed(value[1]);
-  case 4: return value[0] >= 1 && value[0] <= 3 && is_speed(value[1]);
-  case 49: case 70: case 71: case 72: case 74: return value[0] <= 1;
-  case 50: return value[0] >= 10 && value[0] <= 80;
-  case 77: return is_stand_in(value[0]);
-  case 90: return is_string(value);
-  default: return 1;
-  }
-}
+/* ---- Messages to the host: each function puts bytes at `out` and hands back the place after them ---- */
 
 static uint8_t *number(uint8_t *out, uint8_t n) {
   *out++ = ',';
@@ -261,6 +185,195 @@ static uint8_t *message(uint8_t *out, uint8_t id, uint8_t count, const uint8_t *
   return out;
 }
 
+/* ---- The motor ---- */
+
+/* Whether the last codes heard are the string's. */
+static inline int ended(const struct box *box, int which) {
+  const struct string *string = &box->call[which];
+  if (string->length == 0) return 0;
+  for (int i = 1; i <= string->length; i++)
+    if (box->heard[8 - i] != string->code[string->length - i]) return 0;
+  return 1;
+}
+
+/* Whether the string just ended, and all its codes came after string 93. */
+static inline int ended_after_call(const struct box *box, int which) {
+  if (!ended(box, which)) return 0;
+  if (box->called && box->call[which].length <= box->since) return 1;
+  SEEN(NOT_CALLED);
+  return 0;
+}
+
+/* Whether the motor, which is off, starts on the code just heard. */
+static inline int starts(const struct box *box) {
+  if (box->power == 2) {
+    if (!ended(box, SOM)) return 0;
+    SEEN(STARTED_2);
+    return 1;
+  }
+  if (box->power != 5 && ended_after_call(box, STATION)) {
+    if (box->power == 4) SEEN(STARTED_4);
+    else SEEN(STARTED_6_94);
+    return 1;
+  }
+  if (box->power != 4 && ended_after_call(box, ALL)) {
+    if (box->power == 5) SEEN(STARTED_5);
+    else SEEN(STARTED_6_95);
+    return 1;
+  }
+  return 0;
+}
+
+/* The motor goes on or off, and the host is told. */
+static uint8_t *switch_motor(struct box *box, uint8_t *out, uint8_t on) {
+  if (!on) SEEN(STOPPED);
+  if (!on && ended(box, CONDITIONING)) SEEN(CALLED_ON_STOP);
+  box->motor = on;
+  box->called = box->since = 0;
+  return message(out, 20, 2, (const uint8_t[]){box->port, on});
+}
+
+/* A code asked for while 53 is not 0, and what it tells the host. */
+static uint8_t *listen(struct box *box, uint8_t *out, uint8_t code) {
+  if (box->port == 4) {
+    SEEN(PORT_4);
+    return out;
+  }
+  memmove(box->heard, box->heard + 1, 7);
+  box->heard[7] = code;
+  if (box->motor) return ended(box, EOM) ? switch_motor(box, out, 0) : out;
+  if (box->called) {
+    if (box->since < 8) box->since++;
+  } else if (ended(box, CONDITIONING)) {
+    SEEN(CALLED);
+    box->called = 1;
+  }
+  return starts(box) ? switch_motor(box, out, 1) : out;
+}
+
+/* A code asked for in mode 1 or 4. In most boxes nobody listens. */
+static inline uint8_t *hear(struct box *box, uint8_t *out, uint8_t code) {
+  return __builtin_expect(box->power == 0, 1) ? out : listen(box, out, code);
+}
+
+/* The motor goes off and the codes heard are forgotten, with nothing said. */
+static void forget(struct box *box) {
+  box->motor = box->called = box->since = 0;
+  memset(box->heard, 0, 8);
+}
+
+/* ---- Text and TU codes: what each asks for is heard, then sent ---- */
+
+static inline void text(struct box *box, uint8_t byte, uint8_t **line, uint8_t **host) {
+  struct code c = of_byte(byte);
+  if (box->mode != 1) {
+    SEEN(NOT_CARRIED);
+    return;
+  }
+  if (__builtin_expect(c.kind == NO_CODE, 0)) { /* seldom: text with a code goes straight on */
+    if (box->stand_in == 0) {
+      SEEN(DROPPED);
+      return;
+    }
+    SEEN(REPLACED);
+    c = of_byte(box->stand_in);
+  }
+  *host = hear(box, *host, c.code);
+  *line = item(box, *line, c.code, c.kind);
+}
+
+/* A TU code in mode 4, meant in the incoming reading case. */
+static inline void tu_code(struct box *box, uint8_t code, uint8_t **line, uint8_t **host) {
+  uint8_t kind = kind_of[box->incoming][code];
+  *host = hear(box, *host, code);
+  *line = item(box, *line, code, kind);
+  if (kind == SHIFT) {
+    box->incoming = code == LTRS ? LETTERS : FIGURES;
+  } else if ((kind == SPACE && box->on_space) || (kind == RETURN && box->on_return)) {
+    if (box->incoming == FIGURES) SEEN(INCOMING_BACK);
+    box->incoming = LETTERS;
+  }
+}
+
+/* ---- Settings ---- */
+
+static const uint8_t factory[14] = {0, 72, 0, 0, 0, 0, 8, 8, 2, 31, 31, 0, 0, 0}; /* and 53 and 77 are 0 */
+static const uint8_t factory_call[CALLS][8] = {{4, 4, 4, 4, 4, 8, 8, 2},
+                                               {2, 12, 12, 12, 12, 0, 0, 0},
+                                               {4, 4, 4, 4, 4, 8, 8, 2},
+                                               {16, 16, 21, 14, 24, 12, 12, 0},
+                                               {17, 14, 17, 14, 0, 0, 0, 0}};
+
+static int is_speed(uint8_t n) { return n == 60 || n == 66 || n == 75 || n == 100; }
+
+static int is_power(uint8_t n) { return n == 0 || n == 2 || (n >= 4 && n <= 6); }
+
+static int length_of(const uint8_t s[8]) {
+  int length = 0;
+  while (length < 8 && s[length] != 0) length++;
+  return length;
+}
+
+/* Strings 91 to 95: codes, and nothing but zeros from the first 0 on. */
+static int is_call(const uint8_t s[8]) {
+  for (int i = 0; i < 8; i++)
+    if (s[i] > 31 || (i > 0 && s[i - 1] == 0 && s[i] != 0)) return 0;
+  return 1;
+}
+
+/* String 90: such a string, with a first 8 and only LF and shifts before it. */
+static int is_string(const uint8_t s[8]) {
+  int length = length_of(s), before = 0;
+  if (!is_call(s)) return 0;
+  while (before < length && (s[before] == 2 || s[before] == FIGS || s[before] == LTRS)) before++;
+  return before < length && s[before] == 8;
+}
+
+/* Setting 77: 0, or an ASCII value from 33 to 126 that has a code. */
+static int is_stand_in(uint8_t n) { return n == 0 || (n >= 33 && n <= 126 && of_byte(n).kind != NO_CODE); }
+
+/* Where a setting of one value is kept, or none. */
+static uint8_t *setting(struct box *box, uint8_t id) {
+  switch (id) {
+  case 49: return &box->endings;
+  case 50: return &box->limit;
+  case 53: return &box->power;
+  case 70: return &box->on_space;
+  case 71: return &box->on_return;
+  case 72: return &box->filter;
+  case 74: return &box->report;
+  case 77: return &box->stand_in;
+  default: return NULL;
+  }
+}
+
+/* How many parameters a command has, or -1 if its id is undefined for that type. */
+static int parameters(uint8_t type, uint8_t id) {
+  switch (id) {
+  case 0: return type == TR ? 0 : -1;
+  case 1: return type == TR ? 0 : 2;
+  case 4: return type == TR ? -1 : 2;
+  case 10: case 11: case 250: return type == TR ? -1 : 0;
+  case 49: case 50: case 53: case 70: case 71: case 72: case 74: case 77: return type == TR ? 0 : 1;
+  case 90: case 91: case 92: case 93: case 94: case 95: return type == TR ? 0 : 8;
+  default: return -1;
+  }
+}
+
+static int in_range(uint8_t id, const uint8_t *value) {
+  switch (id) {
+  case 1: return value[0] >= 1 && value[0] <= 4 && is_speed(value[1]);
+  case 4: return value[0] >= 1 && value[0] <= 3 && is_speed(value[1]);
+  case 49: case 70: case 71: case 72: case 74: return value[0] <= 1;
+  case 50: return value[0] >= 10 && value[0] <= 80;
+  case 53: return is_power(value[0]);
+  case 77: return is_stand_in(value[0]);
+  case 90: return is_string(value);
+  case 91: case 92: case 93: case 94: case 95: return is_call(value);
+  default: return 1;
+  }
+}
+
 static uint8_t *error(uint8_t *out, uint8_t id, uint8_t n) {
   const uint8_t value[2] = {id, n};
   return message(out, 255, 2, value);
@@ -268,6 +381,8 @@ static uint8_t *error(uint8_t *out, uint8_t id, uint8_t n) {
 
 static void connect(struct box *box, uint8_t mode, uint8_t port, uint8_t speed) {
   SEEN(CONNECTED);
+  if (box->motor) SEEN(OFF_BY_CONNECTION);
+  forget(box);
   box->mode = mode;
   box->port = port;
   box->speed = speed;
@@ -282,7 +397,29 @@ static uint8_t *read_command(struct box *box, uint8_t *out, uint8_t id) {
   if (id == 0) return message(out, 0, 4, (const uint8_t[]){0, 0, 1, 0});
   if (id == 1) return message(out, box->mode, box->mode < 10 ? 2 : 0, &box->port);
   if (id == 90) return message(out, 90, 8, box->string);
+  if (id > 90) return message(out, id, 8, box->call[id - 91].code);
   return message(out, id, 1, setting(box, id));
+}
+
+static void set_call(struct box *box, int which, const uint8_t codes[8]) {
+  memcpy(box->call[which].code, codes, 8);
+  box->call[which].length = (uint8_t)length_of(codes);
+}
+
+/* What 53 or a string of 91 to 95 is set to; the motor goes off even if it is what was there. */
+static void write_call(struct box *box, uint8_t id, const uint8_t *value) {
+  if (box->motor && id == 53) SEEN(OFF_BY_53);
+  if (box->motor && id != 53) SEEN(OFF_BY_STRING);
+  forget(box);
+  if (id == 53) box->power = value[0];
+  else set_call(box, id - 91, value);
+}
+
+static void restore(struct box *box) {
+  forget(box);
+  memcpy(box, factory, sizeof factory);
+  box->power = box->stand_in = 0;
+  for (int i = 0; i < CALLS; i++) set_call(box, i, factory_call[i]);
 }
 
 static uint8_t *write_command(struct box *box, uint8_t *out, uint8_t id, uint8_t count, const uint8_t *value) {
@@ -293,16 +430,27 @@ static uint8_t *write_command(struct box *box, uint8_t *out, uint8_t id, uint8_t
   } else if (id == 90) {
     SEEN(STRING_WRITTEN);
     memcpy(box->string, value, 8);
+  } else if (id == 53 || (id >= 91 && id <= 95)) {
+    SEEN(CALL_WRITTEN);
+    write_call(box, id, value);
   } else if (id == 250) {
     SEEN(FACTORY);
-    memcpy(box, factory, sizeof factory);
-    box->stand_in = 0;
+    if (box->motor) SEEN(OFF_BY_250);
+    restore(box);
   } else {
     SEEN(SETTING_WRITTEN);
     if (id == 77 && value[0] != 0) SEEN(STAND_IN_WRITTEN);
     *setting(box, id) = value[0];
   }
   return message(out, id, count, value);
+}
+
+static void see_refused(const struct box *box, uint8_t id) {
+  if (id == 53) SEEN(POWER_REFUSED);
+  if (id == 77) SEEN(STAND_IN_REFUSED);
+  if (id == 90) SEEN(STRING_REFUSED);
+  if (id > 90) SEEN(CALL_REFUSED);
+  if (box->motor && (id < 49 || id == 53 || id > 90)) SEEN(KEPT_ON);
 }
 
 /* A command with at least two fields, and what it answers. */
@@ -336,8 +484,7 @@ static uint8_t *obey(struct box *box, uint8_t *out) {
   if (type == TR) return read_command(box, out, id);
   if (!in_range(id, field + 2)) {
     SEEN(ERROR_5);
-    if (id == 77) SEEN(STAND_IN_REFUSED);
-    if (id == 90) SEEN(STRING_REFUSED);
+    see_refused(box, id);
     return error(out, id, 5);
   }
   return write_command(box, out, id, (uint8_t)count, field + 2);
@@ -416,7 +563,7 @@ static void reader_byte(struct box *box, uint8_t byte, uint8_t **line, uint8_t *
   if (box->stage == AFTER_CR) {
     box->stage = byte == '/' ? SLASH : TEXT;
     if (byte == 10) SEEN(SWALLOWED);
-    else if (byte != '/') *line = text(box, *line, byte);
+    else if (byte != '/') text(box, byte, line, host);
     return;
   }
   if (box->stage == SLASH) {
@@ -424,11 +571,13 @@ static void reader_byte(struct box *box, uint8_t byte, uint8_t **line, uint8_t *
       box->stage = BEGUN;
       return;
     }
+    uint8_t *before = *host;
     SEEN(SLASH_TEXT);
-    *line = text(box, *line, '/');
+    text(box, '/', line, host);
     if (byte == '/') return;
     box->stage = TEXT;
-    *line = text(box, *line, byte);
+    text(box, byte, line, host);
+    if (*host - before > 17) SEEN(TWO_MESSAGES);
     return;
   }
   if (byte == '/') {
@@ -445,7 +594,7 @@ static void reader_byte(struct box *box, uint8_t byte, uint8_t **line, uint8_t *
 }
 
 static inline void host_byte(struct box *box, uint8_t byte, uint8_t **line, uint8_t **host) {
-  if (box->stage == TEXT && byte != '/') *line = text(box, *line, byte);
+  if (box->stage == TEXT && byte != '/') text(box, byte, line, host);
   else reader_byte(box, byte, line, host);
 }
 
@@ -478,82 +627,112 @@ static void pack(uint8_t bytes[8], const uint8_t codes[8]) {
   for (int i = 0; i < 8; i++) bytes[i] = (uint8_t)(number >> 8 * i);
 }
 
-/* Whether all settings but the string's upper bits, which the struct has not, are sound, and the record and the reader. */
+static int is_motor(const struct box *box) {
+  for (int i = 0; i < CALLS; i++)
+    if (!is_call(box->call[i].code)) return 0;
+  return is_power(box->power) && box->motor <= 1 && box->since <= 8 && !(box->motor && box->called);
+}
+
+/* Whether all is sound but what the struct has not: a number's upper bits and the bytes that hold 0. */
 static int is_sound(const struct box *box) {
-  if (box->unused[0] != 0 || box->unused[1] != 0 || box->unused[2] != 0 || !is_stand_in(box->stand_in)) return 0;
+  if (box->id_52 != 0 || box->id_76 != 0 || box->id_78 != 0 || box->id_79 != 0) return 0;
   return box->endings <= 1 && box->limit >= 10 && box->limit <= 80 && box->on_space <= 1 && box->on_return <= 1 &&
-         box->filter <= 1 && box->report <= 1 && is_string(box->string) && is_connection(box) && box->printer <= 2 &&
-         box->known <= 1 && (box->known || box->column == 0) && box->last <= 2 && box->reading >= 1 &&
-         box->reading <= 2 && box->incoming >= 1 && box->incoming <= 2 && is_reader(box);
+         box->filter <= 1 && box->report <= 1 && is_string(box->string) && is_stand_in(box->stand_in) && is_connection(box) &&
+         box->printer <= 2 && box->known <= 1 && (box->known || box->column == 0) && box->last <= 2 && box->reading >= 1 &&
+         box->reading <= 2 && box->incoming >= 1 && box->incoming <= 2 && is_reader(box) && is_motor(box);
 }
 
 /* Whether 128 bytes spell a sound state, and which. */
 static int load(struct box *box, const uint8_t state[MODEL_STATE]) {
-  memcpy(box, state, sizeof *box);
-  int upper_zero = unpack(box->string, state + offsetof(struct box, string));
-  for (uint64_t i = sizeof *box; i < MODEL_STATE; i++)
+  memcpy(box, state, AT_CALLED);
+  box->called = state[AT_CALLED] != 0;
+  box->since = box->called ? state[AT_CALLED] - 1 : 0;
+  int upper_zero = unpack(box->string, state + AT_STRING);
+  if (!unpack(box->heard, state + AT_HEARD)) upper_zero = 0;
+  for (int i = 0; i < CALLS; i++) {
+    if (!unpack(box->call[i].code, state + AT_CALL + 8 * i)) upper_zero = 0;
+    box->call[i].length = (uint8_t)length_of(box->call[i].code);
+  }
+  for (int i = AT_CALLED + 1; i < AT_HEARD; i++)
     if (state[i] != 0) return 0;
-  if (!is_sound(box)) return 0;
-  if (!upper_zero) SEEN(UPPER_BITS);
-  return upper_zero;
+  for (int i = AT_END; i < MODEL_STATE; i++)
+    if (state[i] != 0) return 0;
+  return upper_zero && is_sound(box);
 }
 
 static void save(uint8_t state[MODEL_STATE], const struct box *box) {
-  memcpy(state, box, sizeof *box);
-  pack(state + offsetof(struct box, string), box->string);
+  memcpy(state, box, AT_CALLED);
+  state[AT_CALLED] = box->called ? box->since + 1 : 0;
+  pack(state + AT_STRING, box->string);
+  pack(state + AT_HEARD, box->heard);
+  for (int i = 0; i < CALLS; i++) pack(state + AT_CALL + 8 * i, box->call[i].code);
 }
 
 /* ---- The calls ---- */
 
 uint32_t model_fresh(uint8_t state[MODEL_STATE]) {
+  struct box box;
+  memset(&box, 0, sizeof box);
+  restore(&box);
+  box.mode = 11;
+  box.reading = box.incoming = LETTERS;
   memset(state, 0, MODEL_STATE);
-  memcpy(state, factory, sizeof factory);
-  pack(state + offsetof(struct box, string), factory + offsetof(struct box, string));
-  state[offsetof(struct box, mode)] = 11;
-  state[offsetof(struct box, reading)] = state[offsetof(struct box, incoming)] = LETTERS;
+  save(state, &box);
   return 0;
 }
 
-/* Into the part of a buffer still free; a null buffer is never touched. */
-static void copy(uint8_t *buffer, uint64_t at, const uint8_t *from, uint64_t n) {
-  for (uint64_t i = 0; i < n; i++) buffer[at + i] = from[i];
+/* The two buffers lent to a host or TU call, and how much of each is written. */
+struct lent {
+  uint8_t *line, *host;
+  uint64_t line_len, host_len, lines, hosts;
+};
+
+/* Whether anything that one byte makes fits. */
+static inline int is_roomy(const struct lent *to) {
+  return to->line_len - to->lines >= MOST && to->host_len - to->hosts >= MOST;
+}
+
+/* With little room a byte's output is made apart and put here; if it does not fit, nothing is put. A null buffer is never touched. */
+static inline int put_apart(struct lent *to, const uint8_t *codes, uint64_t n, const uint8_t *bytes, uint64_t m) {
+  if (n > to->line_len - to->lines || m > to->host_len - to->hosts) {
+    SEEN(NO_ROOM);
+    if (n > 0 && m > to->host_len - to->hosts) SEEN(NO_MESSAGE_ROOM);
+    return 0;
+  }
+  for (uint64_t i = 0; i < n; i++) to->line[to->lines++] = codes[i];
+  for (uint64_t i = 0; i < m; i++) to->host[to->hosts++] = bytes[i];
+  return 1;
 }
 
 uint32_t model_host(uint8_t state[MODEL_STATE], const uint8_t *in, uint64_t in_len, uint8_t *line, uint64_t line_len,
                     uint8_t *host, uint64_t host_len, uint64_t done[3]) {
   struct box box;
-  uint64_t taken = 0, lines = 0, hosts = 0;
-  uint32_t answer = ALL_TAKEN;
+  struct lent to = {line, host, line_len, host_len, 0, 0};
+  uint64_t taken = 0;
   done[0] = done[1] = done[2] = 0;
   if (!load(&box, state)) return NOT_SOUND;
   for (; taken < in_len; taken++) {
-    if (line_len - lines >= MOST && host_len - hosts >= MOST) {
-      uint8_t *l = line + lines, *h = host + hosts;
+    if (is_roomy(&to)) {
+      uint8_t *l = line + to.lines, *h = host + to.hosts;
       host_byte(&box, in[taken], &l, &h);
-      lines = (uint64_t)(l - line);
-      hosts = (uint64_t)(h - host);
-    } else { /* little room: try the byte apart, and go back if its output does not fit */
+      to.lines = (uint64_t)(l - line);
+      to.hosts = (uint64_t)(h - host);
+    } else {
       struct box before = box;
       uint8_t codes[MOST], bytes[MOST], *l = codes, *h = bytes;
       host_byte(&box, in[taken], &l, &h);
-      if ((uint64_t)(l - codes) > line_len - lines || (uint64_t)(h - bytes) > host_len - hosts) {
-        SEEN(NO_ROOM);
+      if (!put_apart(&to, codes, (uint64_t)(l - codes), bytes, (uint64_t)(h - bytes))) {
         box = before;
-        answer = NO_ROOM;
         break;
       }
-      copy(line, lines, codes, (uint64_t)(l - codes));
-      copy(host, hosts, bytes, (uint64_t)(h - bytes));
-      lines += (uint64_t)(l - codes);
-      hosts += (uint64_t)(h - bytes);
     }
   }
   if (taken > 0 && box.stage != FIELD) clear_fields(&box);
   save(state, &box);
   done[0] = taken;
-  done[1] = lines;
-  done[2] = hosts;
-  return answer;
+  done[1] = to.lines;
+  done[2] = to.hosts;
+  return taken < in_len ? NO_ROOM : ALL_TAKEN;
 }
 
 uint32_t model_line(uint8_t state[MODEL_STATE], const uint8_t *codes, uint64_t codes_len, uint8_t *host,
@@ -601,43 +780,39 @@ uint32_t model_line(uint8_t state[MODEL_STATE], const uint8_t *codes, uint64_t c
   return answer;
 }
 
-uint32_t model_tu(uint8_t state[MODEL_STATE], const uint8_t *codes, uint64_t codes_len, uint8_t *line,
-                  uint64_t line_len, uint64_t done[2]) {
+uint32_t model_tu(uint8_t state[MODEL_STATE], const uint8_t *codes, uint64_t codes_len, uint8_t *line, uint64_t line_len,
+                  uint8_t *host, uint64_t host_len, uint64_t done[3]) {
   struct box box;
-  uint64_t taken = 0, lines = 0;
-  uint32_t answer = ALL_TAKEN;
-  done[0] = done[1] = 0;
+  struct lent to = {line, host, line_len, host_len, 0, 0};
+  uint64_t taken = 0;
+  done[0] = done[1] = done[2] = 0;
   if (!load(&box, state)) return NOT_SOUND;
-  for (; taken < codes_len; taken++) {
-    if (codes[taken] > 31) {
-      SEEN(OVER_31);
-      answer = BAD_CODE;
-      break;
-    }
+  for (; taken < codes_len && codes[taken] <= 31; taken++) {
     if (box.mode != 4) {
       SEEN(NOT_CARRIED);
-      continue;
+    } else if (is_roomy(&to)) {
+      uint8_t *l = line + to.lines, *h = host + to.hosts;
+      tu_code(&box, codes[taken], &l, &h);
+      to.lines = (uint64_t)(l - line);
+      to.hosts = (uint64_t)(h - host);
+    } else {
+      struct box before = box;
+      uint8_t out[MOST], bytes[MOST], *l = out, *h = bytes;
+      tu_code(&box, codes[taken], &l, &h);
+      if (!put_apart(&to, out, (uint64_t)(l - out), bytes, (uint64_t)(h - bytes))) {
+        box = before;
+        break;
+      }
     }
-    if (line_len - lines >= MOST) {
-      lines = (uint64_t)(tu_code(&box, line + lines, codes[taken]) - line);
-      continue;
-    }
-    struct box before = box;
-    uint8_t out[MOST];
-    uint64_t n = (uint64_t)(tu_code(&box, out, codes[taken]) - out);
-    if (n > line_len - lines) {
-      SEEN(NO_ROOM);
-      box = before;
-      answer = NO_ROOM;
-      break;
-    }
-    copy(line, lines, out, n);
-    lines += n;
   }
   save(state, &box);
   done[0] = taken;
-  done[1] = lines;
-  return answer;
+  done[1] = to.lines;
+  done[2] = to.hosts;
+  if (taken == codes_len) return ALL_TAKEN;
+  if (codes[taken] <= 31) return NO_ROOM;
+  SEEN(OVER_31);
+  return BAD_CODE;
 }
 
 /* ---- Finding a message ---- */

@@ -10,7 +10,7 @@ _Static_assert(sizeof(uint32_t) == 4 && sizeof(uint8_t) == 1 && LINEBOX_STATE ==
 uint32_t (*const fresh)(uint8_t *) = linebox_fresh;
 uint32_t (*const host)(uint8_t *, const uint8_t *, wide, uint8_t *, wide, uint8_t *, wide, wide *) = linebox_host;
 uint32_t (*const line)(uint8_t *, const uint8_t *, wide, uint8_t *, wide, uint8_t *, wide, wide *) = linebox_line;
-uint32_t (*const tu)(uint8_t *, const uint8_t *, wide, uint8_t *, wide, wide *) = linebox_tu;
+uint32_t (*const tu)(uint8_t *, const uint8_t *, wide, uint8_t *, wide, uint8_t *, wide, wide *) = linebox_tu;
 uint32_t (*const find)(const uint8_t *, wide, wide *) = linebox_find;
 
 /* The functions that a board without a C library has to supply, SUPPLY(name) for each; here with nothing in them. */
