@@ -22,7 +22,7 @@ use Rattle.step.specs.Step.{step, Event}
 use Rattle.demands.specs.Names.{Kind, Still, Space, Return, Shift, Char, Settings, Printer, State}
 use Rattle.demands.specs.Box.{ours}
 use Rattle.demands.specs.Lent.{tookAll, sentAll, exchanges}
-use Rattle.demands.specs.Connects.{connects}
+use Rattle.demands.specs.Writes.{connects}
 use Rattle.demands.specs.Story.{Scene, start, does, turned, Obedient}
 use Rattle.demands.specs.Printing.{Holds}
 use Rattle.demands.specs.Whole.{ownOf, asksAll}

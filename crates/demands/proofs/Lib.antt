@@ -2,6 +2,7 @@ pub mod Most
 pub mod OurBox
 pub mod ItemCodes
 pub mod Sessions
+pub mod Writes
 pub mod Sending
 pub mod Reading
 pub mod Stretches

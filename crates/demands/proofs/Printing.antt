@@ -16,7 +16,7 @@ use Rattle.step.specs.State.{sound, freshBox}
 use Rattle.step.specs.Step.{Event, run}
 use Rattle.step.proofs.Stays.{sound-parts, sound-step, fresh-sound}
 use Rattle.demands.specs.Names.{Settings, Wanted, Sender, Printer}
-use Rattle.demands.specs.Connects.{connects}
+use Rattle.demands.specs.Writes.{connects}
 use Rattle.demands.specs.Items.{itemsOf}
 use Rattle.demands.specs.Lent.{lines}
 use Rattle.demands.specs.Story.{Scene, start, does, turned, Obedient}

@@ -26,13 +26,14 @@ use Rattle.settings.proofs.Written.{commanded-keeps}
 use Rattle.linebox.proofs.Cutting.{cutting}
 use Rattle.step.proofs.Ways.{lined-touches, tued-touches}
 use Rattle.demands.specs.Names.{Case, Kind, Still, Space, Return, Shift, Char, Settings, Connection, ToHost, Printer, Reader, Out, Nothing, One, Two, Finished, State, Stream, Host, Line, Tu}
-use Rattle.demands.specs.Connects.{connecting, connectsBy, connects}
+use Rattle.demands.specs.Writes.{connectionIds, writing, writesBy, connects}
 use Rattle.demands.specs.Items.{itemsOf}
 use Rattle.demands.specs.Asks.{codeIn, textBytes, hostAsks, tuAsks, asksBy, asks}
 use Rattle.demands.specs.Lent.{lines, inForce}
 use Rattle.demands.specs.Printing.{charactersOf}
 use Rattle.demands.specs.Whole.{asksAll}
 use Rattle.demands.specs.ReadingBack.{under, readBack, hostByte, hostBytes, hostForce, texts, plainText, AllPlain, Joins, ReadsBack}
+use Rattle.demands.proofs.Writes.{connected-by}
 use Rattle.demands.proofs.Sending.{line-items, sender-items}
 use Rattle.demands.proofs.Sessions.{lines-append}
 use Rattle.demands.proofs.Reading.{items-read}
@@ -133,13 +134,13 @@ plain-reads s (x ∷ es) r n e a h =
 
 -- Mode 1 stays.
 
-hosted-stays : (s : State) (r : Reader) (out : Out) → connecting s out ≡ false → hosted (withReader s r) (s .reader .values) out .state .connection ≡ s .connection
+hosted-stays : (s : State) (r : Reader) (out : Out) → writing connectionIds s out ≡ false → hosted (withReader s r) (s .reader .values) out .state .connection ≡ s .connection
 hosted-stays s r Nothing h = refl
 hosted-stays s r (One b) h = refl
 hosted-stays s r (Two b) h = refl
-hosted-stays s r (Finished v count) h = commanded-keeps (s .settings) (s .calling) (s .connection) v count (s .reader .values) h
+hosted-stays s r (Finished v count) h = commanded-keeps (s .settings) (s .calling) (s .connection) v count (s .reader .values) (connected-by s v count (s .reader .values) ∙ h)
 
-stays-by : (t : Stream) (s : State) (b : ℕ) → connectsBy t s b ≡ false → step t s b .state .connection ≡ s .connection
+stays-by : (t : Stream) (s : State) (b : ℕ) → writesBy connectionIds t s b ≡ false → step t s b .state .connection ≡ s .connection
 stays-by Host s b h = hosted-stays s (read (s .reader) b .reader) (read (s .reader) b .out) h
 stays-by Line s b h = ap (λ (x : State). x .connection) (lined-touches (route (s .connection) Line) s b)
 stays-by Tu s b h = ap (λ (x : State). x .connection) (tued-touches (route (s .connection) Tu) s b)
@@ -181,13 +182,13 @@ asks-text s (x ∷ es) e h = go (x .stream) (x .byte) (asks-text (step (x .strea
 
 -- A connection command that succeeds sends nothing.
 
-hosted-silent : (s : State) (r : Reader) (out : Out) → connecting s out ≡ true → hosted (withReader s r) (s .reader .values) out .line ≡ []
+hosted-silent : (s : State) (r : Reader) (out : Out) → writing connectionIds s out ≡ true → hosted (withReader s r) (s .reader .values) out .line ≡ []
 hosted-silent s r Nothing h = absurd (false≢true h)
 hosted-silent s r (One b) h = absurd (false≢true h)
 hosted-silent s r (Two b) h = absurd (false≢true h)
 hosted-silent s r (Finished v count) h = refl
 
-silent-by : (t : Stream) (s : State) (b : ℕ) → connectsBy t s b ≡ true → step t s b .line ≡ []
+silent-by : (t : Stream) (s : State) (b : ℕ) → writesBy connectionIds t s b ≡ true → step t s b .line ≡ []
 silent-by Host s b h = hosted-silent s (read (s .reader) b .reader) (read (s .reader) b .out) h
 silent-by Line s b h = absurd (false≢true h)
 silent-by Tu s b h = absurd (false≢true h)

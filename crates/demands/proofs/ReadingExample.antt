@@ -23,7 +23,7 @@ use Rattle.step.specs.Step.{step, Event, run}
 use Rattle.linebox.specs.Ends.{firstsOf}
 use Rattle.demands.specs.Names.{Letters, State, Line}
 use Rattle.demands.specs.Box.{ours}
-use Rattle.demands.specs.Connects.{connects}
+use Rattle.demands.specs.Writes.{connects}
 use Rattle.demands.specs.Lent.{lines, inForce, tookAll, sentAll, exchanges}
 use Rattle.demands.specs.Printing.{charactersOf}
 use Rattle.demands.specs.ReadingBack.{readBack, plainText, AllPlain, Joins}

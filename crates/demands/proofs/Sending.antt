@@ -12,9 +12,10 @@ use Rattle.step.specs.Step.{text, hosted, lined, tued, step, Event}
 use Rattle.step.proofs.Ways.{lined-touches}
 use Rattle.step.proofs.Hearing.{text-none}
 use Rattle.demands.specs.Names.{Reader, Out, Nothing, One, Two, Finished, Settings, Route, Dropped, ToPrinter, ToHost, ToTu, Sender, State, Stream, Host, Line, Tu}
-use Rattle.demands.specs.Connects.{connecting, connectsBy, connects}
+use Rattle.demands.specs.Writes.{connectionIds, writing, writesBy, connects}
 use Rattle.demands.specs.Items.{carriedTo, itemsBy, itemsOf}
 use Rattle.demands.proofs.Sessions.{lined-none}
+use Rattle.demands.proofs.Writes.{connected-by}
 
 module _ (s : State) where
   abbrev afterBy : Stream → ℕ → Sender
@@ -26,11 +27,11 @@ module _ (s : State) where
   hosted-line r (Two b) = refl
   hosted-line r (Finished v count) = rw (text-none (s .settings) (route (s .connection) Host))
 
-  hosted-sender : (r : Reader) (out : Out) → hosted (withReader s r) (s .reader .values) out .state .sender ≡ cond (connecting s out) fresh (afterItems (s .settings) (s .sender) (text (s .settings) (route (s .connection) Host) (textOf out)))
+  hosted-sender : (r : Reader) (out : Out) → hosted (withReader s r) (s .reader .values) out .state .sender ≡ cond (writing connectionIds s out) fresh (afterItems (s .settings) (s .sender) (text (s .settings) (route (s .connection) Host) (textOf out)))
   hosted-sender r Nothing = rw (text-none (s .settings) (route (s .connection) Host))
   hosted-sender r (One b) = refl
   hosted-sender r (Two b) = refl
-  hosted-sender r (Finished v count) = rw (text-none (s .settings) (route (s .connection) Host))
+  hosted-sender r (Finished v count) = rw (text-none (s .settings) (route (s .connection) Host), connected-by s v count (s .reader .values))
 
   tued-line : (k : Route) (c : ℕ) → tued k s c .line ≡ items (s .settings) (s .sender) (carriedTo k s c)
   tued-line Dropped c = refl
@@ -49,7 +50,7 @@ module _ (s : State) where
   line-by Line b = lined-none (route (s .connection) Line) s b
   line-by Tu b = tued-line (route (s .connection) Tu) b
 
-  sender-by : (t : Stream) (b : ℕ) → step t s b .state .sender ≡ cond (connectsBy t s b) fresh (afterBy t b)
+  sender-by : (t : Stream) (b : ℕ) → step t s b .state .sender ≡ cond (writesBy connectionIds t s b) fresh (afterBy t b)
   sender-by Host b = hosted-sender (read (s .reader) b .reader) (read (s .reader) b .out)
   sender-by Line b = ap (λ (y : State). y .sender) (lined-touches (route (s .connection) Line) s b)
   sender-by Tu b = tued-sender (route (s .connection) Tu) b

@@ -32,7 +32,9 @@ use Rattle.step.proofs.Hearing.{none-heard, text-none, hearing-append, codes-ap
 use Rattle.demands.specs.Names.{Case, Letters, Figures, Calling, Settings, Reader, Out, Nothing, One, Two, Finished, Route, Dropped, ToPrinter, ToHost, ToTu, Wanted, State, Stream, Host, Line, Tu}
 use Rattle.demands.specs.Items.{carriedTo, itemsBy, itemsOf}
 use Rattle.demands.specs.EveryCall.{Exactly}
-use Rattle.demands.specs.Station.{forgetting, forgetsBy, forgets, hears, heardFrom, heardSince, codedBy, Coded, callingAfter, Stationed, talks, Tells}
+use Rattle.demands.specs.Writes.{forgettingIds, writing, writesBy, forgets}
+use Rattle.demands.specs.Station.{hears, heardFrom, heardSince, codedBy, Coded, callingAfter, Stationed, talks, Tells}
+use Rattle.demands.proofs.Writes.{forgets-by}
 
 -- One byte.
 
@@ -40,18 +42,18 @@ module _ (s : State) where
   abbrev none : text (s .settings) (route (s .connection) Host) [] ≡ []
   none = text-none (s .settings) (route (s .connection) Host)
 
-  hosted-motor : (r : Reader) (out : Out) → hosted (withReader s r) (s .reader .values) out .state .motor ≡ cond (forgetting s out) resting (motorAfter s (text (s .settings) (route (s .connection) Host) (textOf out)))
+  hosted-motor : (r : Reader) (out : Out) → hosted (withReader s r) (s .reader .values) out .state .motor ≡ cond (writing forgettingIds s out) resting (motorAfter s (text (s .settings) (route (s .connection) Host) (textOf out)))
   unfolding motorAfter
   hosted-motor r Nothing = rw none (sym (none-heard s))
   hosted-motor r (One b) = refl
   hosted-motor r (Two b) = refl
-  hosted-motor r (Finished v count) = rw (none, none-heard s)
+  hosted-motor r (Finished v count) = rw (none, none-heard s, forgets-by s v count (s .reader .values))
 
-  hosted-calling : (r : Reader) (out : Out) → forgetting s out ≡ false → hosted (withReader s r) (s .reader .values) out .state .calling ≡ s .calling
+  hosted-calling : (r : Reader) (out : Out) → writing forgettingIds s out ≡ false → hosted (withReader s r) (s .reader .values) out .state .calling ≡ s .calling
   hosted-calling r Nothing e = refl
   hosted-calling r (One b) e = refl
   hosted-calling r (Two b) e = refl
-  hosted-calling r (Finished v count) e = commanded-lasts (s .settings) (s .calling) (s .connection) v count (s .reader .values) e .1
+  hosted-calling r (Finished v count) e = commanded-lasts (s .settings) (s .calling) (s .connection) v count (s .reader .values) (forgets-by s v count (s .reader .values) ∙ e) .1
 
   tued-motor : (k : Route) (c : ℕ) → tued k s c .state .motor ≡ motorAfter s (carriedTo k s c)
   unfolding motorAfter
@@ -66,12 +68,12 @@ module _ (s : State) where
   tued-calling ToHost c = refl
   tued-calling ToTu c = refl
 
-  motor-by : (t : Stream) (b : ℕ) → step t s b .state .motor ≡ cond (forgetsBy t s b) resting (motorAfter s (itemsBy t s b))
+  motor-by : (t : Stream) (b : ℕ) → step t s b .state .motor ≡ cond (writesBy forgettingIds t s b) resting (motorAfter s (itemsBy t s b))
   motor-by Host b = hosted-motor (read (s .reader) b .reader) (read (s .reader) b .out)
   motor-by Line b = ap (λ (x : State). x .motor) (lined-touches (route (s .connection) Line) s b) ∙ sym (none-heard s)
   motor-by Tu b = tued-motor (route (s .connection) Tu) b
 
-  calling-by : (t : Stream) (b : ℕ) → forgetsBy t s b ≡ false → step t s b .state .calling ≡ s .calling
+  calling-by : (t : Stream) (b : ℕ) → writesBy forgettingIds t s b ≡ false → step t s b .state .calling ≡ s .calling
   calling-by Host b e = hosted-calling (read (s .reader) b .reader) (read (s .reader) b .out) e
   calling-by Line b e = ap (λ (x : State). x .calling) (lined-touches (route (s .connection) Line) s b)
   calling-by Tu b e = tued-calling (route (s .connection) Tu) b

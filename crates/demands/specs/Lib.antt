@@ -4,7 +4,7 @@ pub mod ExactCodes
 pub mod EveryCall
 pub mod ItemCodes
 pub mod Items
-pub mod Connects
+pub mod Writes
 pub mod Asks
 pub mod Lent
 pub mod Story

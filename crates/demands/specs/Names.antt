@@ -6,6 +6,8 @@ pub use Rattle.code.specs.declared.Kind.the-variants.{Still, Space, Return, Shi
 pub use Rattle.code.specs.declared.Conversion.{Conversion}
 pub use Rattle.code.specs.declared.Conversion.the-variants as conversion
 pub use Rattle.command.specs.declared.Reader.{Reader}
+pub use Rattle.command.specs.declared.Verb.{Verb}
+pub use Rattle.command.specs.declared.Verb.the-variants.{Write, Read, Other}
 pub use Rattle.command.specs.declared.Out.{Out}
 pub use Rattle.command.specs.declared.Out.the-variants.{Nothing, One, Two, Finished}
 pub use Rattle.settings.specs.declared.Settings.{Settings}

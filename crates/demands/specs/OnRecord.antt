@@ -6,7 +6,7 @@ use Rattle.agree.specs.Sure.{ColumnSure, CaseSure, isReturn, isCased, holds}
 use Rattle.step.specs.Step.{step, Event, run}
 use Rattle.demands.specs.Names.{State}
 use Rattle.demands.specs.Lent.{lines}
-use Rattle.demands.specs.Connects.{connects}
+use Rattle.demands.specs.Writes.{connects}
 
 -- at none of the events does a connection command succeed
 abbrev pub Unconnected : State → List Event → Type 0

@@ -12,7 +12,7 @@ use Rattle.demands.specs.Names.{Settings, Out, State, Stream, Host, Line
 use Rattle.demands.specs.Box.{Box}
 use Rattle.demands.specs.Lent.{lines, inForce, Lent, tookAll, sentAll, exchanges}
 use Rattle.demands.specs.Asks.{textBytes}
-use Rattle.demands.specs.Connects.{connects}
+use Rattle.demands.specs.Writes.{connects}
 
 -- The reader.
 

@@ -5,7 +5,6 @@ use mathlib.Core.Bool.{Bool, true, false, cond}
 use mathlib.Core.List.{List, [], _∷_, _++_}
 use Rattle.word.specs.Word.{allBelow}
 use Rattle.command.specs.Read.{read}
-use Rattle.settings.specs.Command.{commanded}
 use Rattle.motor.specs.Motor.{signal, hearingAll, resting}
 use Rattle.motor.specs.Matching.{stringCodes, EndsWith}
 use Rattle.motor.specs.Turning.{onAfter, lastStop, Starts, TurnsOn, TurnsOff}
@@ -14,24 +13,8 @@ use Rattle.step.specs.Hear.{listens, codesAsked, changes}
 use Rattle.step.specs.Step.{step, Event, run}
 use Rattle.demands.specs.Names.{Calling, Out, Nothing, One, Two, Finished, State, Stream, Host, Line, Tu}
 use Rattle.demands.specs.Items.{itemsOf}
+use Rattle.demands.specs.Writes.{forgets}
 use Rattle.demands.specs.EveryCall.{Exactly}
-
--- a command turns the motor off without a message and forgets: 53, a string of 91 to 95 or a connection is written, or 250
-abbrev pub forgetting : State → Out → Bool
-forgetting s Nothing = false
-forgetting s (One b) = false
-forgetting s (Two b) = false
-forgetting s (Finished v count) = commanded (s .settings) (s .calling) (s .connection) v count (s .reader .values) .stored .forgets
-
--- commands come in host bytes alone
-abbrev pub forgetsBy : Stream → State → ℕ → Bool
-forgetsBy Host s b = forgetting s (read (s .reader) b .out)
-forgetsBy Line s c = false
-forgetsBy Tu s c = false
-
--- with this byte
-abbrev pub forgets : State → Event → Bool
-forgets s e = forgetsBy (e .stream) s (e .byte)
 
 -- the codes heard with this byte: each item's, where there is a motor to listen
 abbrev pub hears : State → Event → List ℕ

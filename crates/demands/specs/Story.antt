@@ -8,7 +8,7 @@ use Rattle.agree.specs.Sure.{isReturn, holds}
 use Rattle.step.specs.State.{freshBox}
 use Rattle.step.specs.Step.{Step, step, Event}
 use Rattle.demands.specs.Names.{Printer, State}
-use Rattle.demands.specs.Connects.{connects}
+use Rattle.demands.specs.Writes.{connects}
 
 -- the box, the printer on its line, and whether a return was sent since the last connection
 pub record Scene : Type 0 where
