@@ -1,7 +1,7 @@
 -- The rules of a string, asked of its word code by code: what is left of the word stands for the codes that are left.
 -- Assumes nothing.
 use Prim.Native.Nat.{ℕ, zero, suc, _/_, _%_, _^_, _<_}
-use mathlib.Core.Path.{_≡_, refl, sym, ap, _∙_}
+use mathlib.Core.Path.{_≡_, refl, sym, ap, subst, _∙_}
 use mathlib.Core.Bool.{Bool, true, false, _&&_, or-false, false≢true}
 use mathlib.Core.List.{List}
 use native.Mathlib.Nat.{pow-zero, mod-add-div, div-lt-self}
@@ -9,8 +9,8 @@ use native.Mathlib.Omega.{arith}
 use borrow.Author.Tests.{eqb-true, eqb-false, eq-eqb, ne-eqb}
 use lib.Dec.{eqb, lit≤}
 use lib.ListN.{length}
-use Rattle.word.specs.Word.{digitsBy, unpacked, packed, isWord}
-use Rattle.word.proofs.Words.{digits-below, fewer, codes-packed, below}
+use Rattle.word.specs.Word.{digitsBy, numberBy, allBelow, unpacked, packed, isWord, bytesOf}
+use Rattle.word.proofs.Words.{digits-below, digits-number, fewer, codes-packed, below}
 use Rattle.settings.specs.Table.{allCodes, allZero, padded, early, opens, soundString, soundSignal, isSignal}
 
 -- so many codes are left, and what is asked of all is asked of them
@@ -96,3 +96,7 @@ signal-word cs l h = rw (below cs l h, h) (ap padded (codes-packed cs l h))
 pub word-string : (n : ℕ) → (padded (unpacked n) && opens (unpacked n)) ≡ soundString (unpacked n)
 unfolding soundString
 word-string n = rw (digits-below 32 (lit≤ tt) 8 n)
+
+-- a number made of bytes has them as its own
+pub bytes-number : (bs : List ℕ) → allBelow 256 bs ≡ true → length bs ≡ 8 → (n : ℕ) → n ≡ numberBy 256 bs → bytesOf n ≡ bs
+bytes-number bs h l n e = rw e (subst (λ (k : ℕ). digitsBy 256 k (numberBy 256 bs) ≡ bs) l (digits-number 256 (lit≤ tt) bs h))

@@ -2,10 +2,10 @@
 -- Assumes nothing.
 use Prim.Native.Nat.{ℕ, zero, suc, _+_, _≤_, _<_}
 use mathlib.Core.Path.{_≡_, refl, ap, _∙_}
-use mathlib.Core.List.{List, [], _∷_}
+use mathlib.Core.List.{List, [], _∷_, _++_}
 use native.Mathlib.Omega.{arith}
 use native.Mathlib.Numerals.{add-one}
-use lib.ListN.{length, getD, drop, drop-of-length-le}
+use lib.ListN.{length, getD, take, drop, drop-of-length-le}
 use lib.Seq.{drop-cons}
 
 module _ {A : Type 0} (f : List ℕ → A) (xs : List ℕ) (i : ℕ) (a : A) where
@@ -26,6 +26,10 @@ spread i (suc n) xs = getD xs i 0 ∷ spread (suc i) n xs
 pub spread-all : (n i : ℕ) (xs : List ℕ) → length xs ≡ i + n → drop i xs ≡ spread i n xs
 spread-all zero i xs e = drop-of-length-le xs {i = i} (omega (arith, e))
 spread-all (suc n) i xs e = drop-cons xs i 0 (omega (arith, e)) ∙ ap (λ (l : List ℕ). getD xs i 0 ∷ l) (spread-all n (suc i) xs (omega (arith, e)))
+
+-- of eleven, eight from the third on and the last
+pub last-of : (xs : List ℕ) → length xs ≡ 11 → take 8 (drop 2 xs) ++ getD xs 10 0 ∷ [] ≡ drop 2 xs
+last-of xs e = rw (spread-all 9 2 xs e)
 
 -- none of the first five
 pub past-five : (n : ℕ) → (n ≡ 0 → ⊥) → (n ≡ 1 → ⊥) → (n ≡ 2 → ⊥) → (n ≡ 3 → ⊥) → (n ≡ 4 → ⊥) → 5 ≤ n

@@ -1,7 +1,9 @@
 // What is wrong with a command: the first error that applies.
 ghost use mathlib.Core.Path.{_≡_};
 ghost use Prim.Native.Nat.{_%_};
+ghost use mathlib.Core.List.{[], _∷_};
 ghost use lib.ListN.{getD, take, drop};
+ghost use Rattle.word.specs.Word.{bytesOf};
 ghost use Rattle.settings.specs.Command.{sum, checked, fitting, ranged, faultIn, faultOf, together, jointly, numberOf, obey};
 ghost use Rattle.settings.specs.Names.{Calling as Names·Calling, Connection as Names·Connection};
 use crate::Fault;
@@ -55,11 +57,20 @@ fn is_fitting(n: u8, count: u8, fields: [u8; 11]) -> bool
     (fields[1] == n) & ((c == k + 2) | (c == k + 3))
 }
 
-// The parameters, and what follows them.
-pub fn parameters(fields: [u8; 11]) -> [u8; 9]
-    ensures { λ r. ⌜ r ≡ drop 2 fields ⌝ }
+// The number that has these eight bytes, the first one lowest.
+fn from_bytes(a: u8, b: u8, c: u8, d: u8, e: u8, f: u8, g: u8, h: u8) -> u64
+    ensures { λ r. ⌜ bytesOf r ≡ a ∷ b ∷ c ∷ d ∷ e ∷ f ∷ g ∷ h ∷ [] ⌝ }
 {
-    [
+    let low = a as u64 + 256 * (b as u64) + 65536 * (c as u64) + 16777216 * (d as u64);
+    let high = e as u64 + 256 * (f as u64) + 65536 * (g as u64) + 16777216 * (h as u64);
+    low + 4294967296 * high
+}
+
+// The first eight parameters in one number.
+fn eight_in_one(fields: [u8; 11]) -> u64
+    ensures { λ r. ⌜ bytesOf r ≡ take 8 (drop 2 fields) ⌝ }
+{
+    from_bytes(
         fields[2],
         fields[3],
         fields[4],
@@ -68,6 +79,31 @@ pub fn parameters(fields: [u8; 11]) -> [u8; 9]
         fields[7],
         fields[8],
         fields[9],
+    )
+}
+
+// The parameters, and what follows them. Eight go by one number: what is looked at place by place is kept in a register for each, and the
+// command reader, compiled into the same loop, would carry eleven.
+pub fn parameters(fields: [u8; 11]) -> [u8; 9]
+    ensures { λ r. ⌜ r ≡ drop 2 fields ⌝ }
+{
+    let a = eight_in_one(fields);
+    let b = a / 256;
+    let c = b / 256;
+    let d = c / 256;
+    let e = d / 256;
+    let f = e / 256;
+    let g = f / 256;
+    let h = g / 256;
+    [
+        (a % 256) as u8,
+        (b % 256) as u8,
+        (c % 256) as u8,
+        (d % 256) as u8,
+        (e % 256) as u8,
+        (f % 256) as u8,
+        (g % 256) as u8,
+        (h % 256) as u8,
         fields[10],
     ]
 }
