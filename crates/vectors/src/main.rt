@@ -6,26 +6,28 @@
 // next call's two rooms and the count taken so far; `Z` puts a number into setting 50 behind the box's back.
 ghost use Prim.Native.Nat.{_≤_};
 ghost use lib.ListN.{length};
+use entries::tables::Entry;
+use entries::tables::run_entry;
+use entries::text::Form;
+use entries::text::after_bar;
+use entries::text::before_bar;
+use entries::text::byte_at;
+use entries::text::decode;
+use entries::text::front;
+use entries::traces::Ran;
+use entries::traces::Start;
+use entries::traces::Verdict;
+use entries::traces::form_first;
+use entries::traces::form_second;
+use entries::traces::form_taken;
+use entries::traces::judged;
+use entries::traces::lending;
+use entries::traces::limited;
+use entries::traces::prepared;
+use entries::traces::ready;
 use libc::STDOUT_FILENO;
 use linebox::Called;
 use step::Stream;
-use tables::Entry;
-use text::Form;
-use text::after_bar;
-use text::before_bar;
-use text::byte_at;
-use text::decode;
-use text::front;
-use traces::Ran;
-use traces::Start;
-use traces::Verdict;
-use traces::judged;
-use traces::prepared;
-use traces::ready;
-
-mod tables;
-mod text;
-mod traces;
 
 // How many vectors of a kind were run, and how many differ.
 struct Tally {
@@ -140,7 +142,7 @@ fn run_call(t: Stream, b: Start, s: &[u8]) -> Ran {
     let first = after_bar(given);
     let second = after_bar(first);
     let mut input = [0u8; 512];
-    let n = decode(traces::form_taken(t), before_bar(given), &mut input);
+    let n = decode(form_taken(t), before_bar(given), &mut input);
     let whole = front(&input, n);
     let mut one = [0u8; 255];
     let mut two = [0u8; 255];
@@ -149,11 +151,11 @@ fn run_call(t: Stream, b: Start, s: &[u8]) -> Ran {
     let sent = front(&one, r.first);
     let told = front(&two, r.second);
     let same = is_ended(r, left, before_bar(after_bar(second)))
-        && is_shown(traces::form_first(t), sent, before_bar(first))
-        && is_shown(traces::form_second(t), told, before_bar(second));
+        && is_shown(form_first(t), sent, before_bar(first))
+        && is_shown(form_second(t), told, before_bar(second));
     if !same {
-        print_shown(traces::form_first(t), sent);
-        print_shown(traces::form_second(t), told);
+        print_shown(form_first(t), sent);
+        print_shown(form_second(t), told);
     }
     let next = r.state;
     judged(same, next)
@@ -181,8 +183,8 @@ fn run_trace(b: Start, s: &[u8]) -> Ran {
         b'T' => run_call(Stream::Tu, b, s),
         b'F' => run_find(b, s),
         b'N' => prepared(ready(step::soundness::fresh())),
-        b'R' => prepared(traces::lending(b, s)),
-        b'Z' => prepared(traces::limited(b, s)),
+        b'R' => prepared(lending(b, s)),
+        b'Z' => prepared(limited(b, s)),
         _ => prepared(b),
     }
 }
@@ -202,7 +204,7 @@ fn tallied(t: Tallies, s: &[u8]) -> Tallies {
     let ustty = t.ustty;
     let traces = t.traces;
     let start = t.next;
-    match tables::run_entry(s) {
+    match run_entry(s) {
         Entry::Ascii(same) => Tallies {
             ascii: counted(ascii, same, s),
             ustty,
