@@ -33,27 +33,27 @@ char_kept true (Is Letters) case col count a b = rw (← a) (next_kept col count
 char_kept true (Is Figures) case col count a b = rw (← a) b
 
 module _ (o : Settings) (r : Record) (p : Printer) (a : Agrees r p) where
-  case-kept : (k : Kind) → ObeysAt o p k → CaseAgrees (note_case o r.case k) (hear_case p k)
-  case-kept Still obeys = a.case
-  case-kept Space obeys = unshift_kept p.onspace (onspace o) r.case p.case obeys a.case
-  case-kept Return obeys = unshift_kept p.onreturn (onreturn o) r.case p.case obeys a.case
-  case-kept (Shift to) obeys = refl
-  case-kept (Char bell) obeys = a.case
+  case_kept : (k : Kind) → ObeysAt o p k → CaseAgrees (note_case o r.case k) (hear_case p k)
+  case_kept Still obeys = a.case
+  case_kept Space obeys = unshift_kept p.onspace (onspace o) r.case p.case obeys a.case
+  case_kept Return obeys = unshift_kept p.onreturn (onreturn o) r.case p.case obeys a.case
+  case_kept (Shift to) obeys = refl
+  case_kept (Char bell) obeys = a.case
 
-  column-kept : (k : Kind) → ColumnAgrees (note_column r.case r.column k) (hear_count p k)
-  column-kept Still = a.column
-  column-kept Space = next_kept r.column p.count a.column
-  column-kept Return = refl
-  column-kept (Shift to) = a.column
-  column-kept (Char bell) = char_kept bell r.case p.case r.column p.count a.case a.column
+  column_kept : (k : Kind) → ColumnAgrees (note_column r.case r.column k) (hear_count p k)
+  column_kept Still = a.column
+  column_kept Space = next_kept r.column p.count a.column
+  column_kept Return = refl
+  column_kept (Shift to) = a.column
+  column_kept (Char bell) = char_kept bell r.case p.case r.column p.count a.case a.column
 
-  pub kind-kept : (k : Kind) → ObeysAt o p k → Agrees (note_kind o r k) (hear_kind p k)
-  kind-kept k obeys = record { case = case-kept k obeys; column = column-kept k }
+  pub kind_kept : (k : Kind) → ObeysAt o p k → Agrees (note_kind o r k) (hear_kind p k)
+  kind_kept k obeys = record { case = case_kept k obeys; column = column_kept k }
 
 -- a code, an ending, an item: whatever goes out
 pub agreement : (o : Settings) (r : Record) (p : Printer) (cs : List ℕ) → Obeys o p cs → Agrees r p → Agrees (notes o r cs) (hears p cs)
 agreement o r p [] obeys a = a
-agreement o r p (c ∷ cs) obeys a = agreement o (note o r c) (hear p c) cs obeys.1 (kind-kept o r p a (kind_of c) obeys.0)
+agreement o r p (c ∷ cs) obeys a = agreement o (note o r c) (hear p c) cs obeys.1 (kind_kept o r p a (kind_of c) obeys.0)
 
 -- on connection any printer agrees
 pub unknown_agrees : (p : Printer) → Agrees unknown p

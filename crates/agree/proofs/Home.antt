@@ -13,7 +13,7 @@ use Rattle.code.specs.Rows.{row_at}
 use Rattle.code.specs.Kinds.{kind_of, shifts}
 use Rattle.settings.specs.Table.{all_codes, padded, opens, sound_string, sound_settings}
 use Rattle.settings.specs.Options.{limit, onreturn, ending_codes}
-use Rattle.settings.proofs.Held.{limit-in, ending-sound, eight_codes}
+use Rattle.settings.proofs.Held.{limit_in, ending_sound, eight_codes}
 use Rattle.sender.specs.Record.{note_column, note_kind, note, notes}
 use Rattle.sender.specs.Code.{unshift, send_kind}
 use Rattle.sender.specs.Ending.{on_record, ending_of, until_zero}
@@ -100,8 +100,8 @@ pub record Sound (o : Settings) : Type 0 where
 pub sound : (o : Settings) → sound_settings o ≡ true → Sound o
 unfolding sound_string
 sound o h =
-    let limits = both (leb 10 (limit o)) (leb (limit o) 80) (limit-in o h) in
-    let string = both (all_codes (ending_codes o)) (padded (ending_codes o) && opens (ending_codes o)) (ending-sound o h) in
+    let limits = both (leb 10 (limit o)) (leb (limit o) 80) (limit_in o h) in
+    let string = both (all_codes (ending_codes o)) (padded (ending_codes o) && opens (ending_codes o)) (ending_sound o h) in
     let opened = sound_opens (ending_codes o) (both (padded (ending_codes o)) (opens (ending_codes o)) string.1).1 in
     let short : length (until_zero (ending_codes o)) ≤ 8 = omega (arith, until_length (ending_codes o), eight_codes o) in
     record {

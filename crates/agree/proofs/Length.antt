@@ -23,7 +23,7 @@ use Rattle.sender.proofs.Few.{code_length, wanted_few}
 use Rattle.agree.proofs.Folds.{item_cases}
 use Rattle.agree.proofs.Weights.{weight_code, places, column_reach}
 use Rattle.agree.proofs.Home.{Sound, sound}
-use Rattle.agree.proofs.Margin.{due-ends, low-not-due}
+use Rattle.agree.proofs.Margin.{due_ends, low_not_due}
 
 -- whether a code may be added: not while the case is known to be letters
 abbrev unsure : Known → ℕ
@@ -68,26 +68,26 @@ ending_length o r (c ∷ cs) =
     rw (length-append s (ending_of o (notes o r s) cs)) (omega (arith, paid o r c, ending_length o (notes o r s) cs))
 
 module _ (o : Settings) (t : Sound o) where
-  pub ending-most : (r : Record) (b : Bool) → length (ending o r b) ≤ 12
-  ending-most r true = omega (arith, ending_length o r (until_zero (ending_codes o)), t.short, unsure_most r.case)
-  ending-most r false = omega arith
+  pub ending_most : (r : Record) (b : Bool) → length (ending o r b) ≤ 12
+  ending_most r true = omega (arith, ending_length o r (until_zero (ending_codes o)), t.short, unsure_most r.case)
+  ending_most r false = omega arith
 
-  item-most : (s : Sender) (w : Wanted) → length (item o s w) ≤ 14
-  item-most s w =
+  item_most : (s : Sender) (w : Wanted) → length (item o s w) ≤ 14
+  item_most s w =
       let e = ending_before o s.held w in
       let n = (notes o s.held e).case in
       item_cases o s w (λ cs. length cs ≤ 14) (omega arith)
       (rw (length-append e (send_as o n w.case w.code))
-      (omega (arith, ending-most s.held (moves w.case (kind_of w.code) && due o s.held.column), code_length o n w.case w.code)))
+      (omega (arith, ending_most s.held (moves w.case (kind_of w.code) && due o s.held.column), code_length o n w.case w.code)))
 
   -- with no ending due
-  item-short : (s : Sender) (w : Wanted) → due o s.held.column ≡ false → length (item o s w) ≤ 2
-  item-short s w h =
+  item_short : (s : Sender) (w : Wanted) → due o s.held.column ≡ false → length (item o s w) ≤ 2
+  item_short s w h =
       let e : character o s.held w ≡ send_as o s.held.case w.case w.code = rw (h, and-false (moves w.case (kind_of w.code))) in
       item_cases o s w (λ cs. length cs ≤ 2) (omega arith) (rw e (code_length o s.held.case w.case w.code))
 
-  two-most : (s : Sender) (w v : Wanted) → length (item o s w) + length (item o (after_item o s w) v) ≤ 16
-  two-most s w v = item_cases o s w P (omega (arith, item-most (after []) v)) (go (moves w.case (kind_of w.code) && due o s.held.column))
+  two_most : (s : Sender) (w v : Wanted) → length (item o s w) + length (item o (after_item o s w) v) ≤ 16
+  two_most s w v = item_cases o s w P (omega (arith, item_most (after []) v)) (go (moves w.case (kind_of w.code) && due o s.held.column))
     where
       after : List ℕ → Sender
       after cs = record { held = notes o s.held cs; last = last_of (kind_of w.code) }
@@ -101,28 +101,28 @@ module _ (o : Settings) (t : Sound o) where
           let r = notes o s.held e in
           let x = send_as o r.case w.case w.code in
           let col = (notes o s.held (e ++ x)).column in
-          let low : places col < limit o = rw (notes_append o s.held e x) (omega (arith, due-ends o t s.held, column_reach o r x, weight_code o r.case w.case w.code, t.least)) in
-          let short = item-short (after (e ++ x)) v (low-not-due o t col low) in
-          omega (arith, length-append e x, ending-most s.held true, code_length o r.case w.case w.code, short)
+          let low : places col < limit o = rw (notes_append o s.held e x) (omega (arith, due_ends o t s.held, column_reach o r x, weight_code o r.case w.case w.code, t.least)) in
+          let short = item_short (after (e ++ x)) v (low_not_due o t col low) in
+          omega (arith, length-append e x, ending_most s.held true, code_length o r.case w.case w.code, short)
       go false =
           let x = send_as o s.held.case w.case w.code in
-          omega (arith, code_length o s.held.case w.case w.code, item-most (after x) v)
+          omega (arith, code_length o s.held.case w.case w.code, item_most (after x) v)
 
 module _ (o : Settings) (h : sound_settings o ≡ true) where
-  pub item-length : (s : Sender) (w : Wanted) → length (item o s w) ≤ 14
-  item-length s w = item-most o (sound o h) s w
+  pub item_length : (s : Sender) (w : Wanted) → length (item o s w) ≤ 14
+  item_length s w = item_most o (sound o h) s w
 
-  pub items-length : (s : Sender) (ws : List Wanted) → length ws ≤ 2 → length (items o s ws) ≤ 16
-  items-length s [] few = omega arith
-  items-length s (w ∷ []) few = rw (append-nil (item o s w)) (omega (arith, item-length s w))
-  items-length s (w ∷ v ∷ []) few =
+  pub items_length : (s : Sender) (ws : List Wanted) → length ws ≤ 2 → length (items o s ws) ≤ 16
+  items_length s [] few = omega arith
+  items_length s (w ∷ []) few = rw (append-nil (item o s w)) (omega (arith, item_length s w))
+  items_length s (w ∷ v ∷ []) few =
       let u = after_item o s w in
-      rw (append-nil (item o u v), length-append (item o s w) (item o u v)) (two-most o (sound o h) s w v)
-  items-length s (w ∷ v ∷ u ∷ ws) few = absurd (omega arith)
+      rw (append-nil (item o u v), length-append (item o s w) (item o u v)) (two_most o (sound o h) s w v)
+  items_length s (w ∷ v ∷ u ∷ ws) few = absurd (omega arith)
 
   -- two text bytes, as a released `/` and the byte after it
-  pub texts-length : (s : Sender) (x y : Conversion) → length (items o s (wanted_of x ++ wanted_of y)) ≤ 16
-  texts-length s x y = items-length s (wanted_of x ++ wanted_of y) (rw (length-append (wanted_of x) (wanted_of y)) (omega (arith, wanted_few x, wanted_few y)))
+  pub texts_length : (s : Sender) (x y : Conversion) → length (items o s (wanted_of x ++ wanted_of y)) ≤ 16
+  texts_length s x y = items_length s (wanted_of x ++ wanted_of y) (rw (length-append (wanted_of x) (wanted_of y)) (omega (arith, wanted_few x, wanted_few y)))
 
-  pub slash-length : (s : Sender) (y : Conversion) → length (items o s (wanted Figures 29 ∷ wanted_of y)) ≤ 16
-  slash-length s y = texts-length s (Cased Figures 29) y
+  pub slash_length : (s : Sender) (y : Conversion) → length (items o s (wanted Figures 29 ∷ wanted_of y)) ≤ 16
+  slash_length s y = texts_length s (Cased Figures 29) y

@@ -89,49 +89,49 @@ count_below limit column.Unknown count most sure a h = absurd sure
 count_below limit (At n) count most sure a h = omega arith
 
 module _ (o : Settings) (t : Sound o) where
-  not-due : (col : Column) → endings o ≡ true → due o col ≡ false → places col < limit o
-  not-due column.Unknown on h = omega (arith, t.least)
-  not-due (At n) on h = leb-false (limit o) n (rw on at h)
+  not_due : (col : Column) → endings o ≡ true → due o col ≡ false → places col < limit o
+  not_due column.Unknown on h = omega (arith, t.least)
+  not_due (At n) on h = leb-false (limit o) n (rw on at h)
 
   -- after the ending that is due, no other is
-  pub due-ends : (r : Record) → places (notes o r (ending o r true)).column ≤ 7
-  due-ends r = home_column 7 o (ending_of o r (until_zero (ending_codes o))) (t.home r) r
+  pub due_ends : (r : Record) → places (notes o r (ending o r true)).column ≤ 7
+  due_ends r = home_column 7 o (ending_of o r (until_zero (ending_codes o))) (t.home r) r
 
-  pub low-not-due : (col : Column) → places col < limit o → due o col ≡ false
-  low-not-due column.Unknown h = refl
-  low-not-due (At n) h = rw (lt-leb (limit o) n h) (and-false (endings o))
+  pub low_not_due : (col : Column) → places col < limit o → due o col ≡ false
+  low_not_due column.Unknown h = refl
+  low_not_due (At n) h = rw (lt-leb (limit o) n h) (and-false (endings o))
 
   module _ (on : endings o ≡ true) (r : Record) (w : Wanted) where
-    below-limit : moves w.case (kind_of w.code) ≡ true → places (notes o r (ending_before o r w)).column < limit o
-    below-limit h = go (moves w.case (kind_of w.code) && due o r.column) refl
+    below_limit : moves w.case (kind_of w.code) ≡ true → places (notes o r (ending_before o r w)).column < limit o
+    below_limit h = go (moves w.case (kind_of w.code) && due o r.column) refl
       where
         go : (b : Bool) → (moves w.case (kind_of w.code) && due o r.column) ≡ b → places (notes o r (ending o r b)).column < limit o
-        go true e = omega (arith, due-ends r, t.least)
-        go false e = not-due r.column on (rw h at e)
+        go true e = omega (arith, due_ends r, t.least)
+        go false e = not_due r.column on (rw h at e)
 
-    ending-below : (p : Printer) → Below (limit o) (prints_all p (ending_before o r w))
-    ending-below p = go (moves w.case (kind_of w.code) && due o r.column)
+    ending_below : (p : Printer) → Below (limit o) (prints_all p (ending_before o r w))
+    ending_below p = go (moves w.case (kind_of w.code) && due o r.column)
       where
         go : (b : Bool) → Below (limit o) (prints_all p (ending o r b))
         go true = home_below (limit o) 7 (omega (arith, t.least)) (ending_of o r (until_zero (ending_codes o))) (t.home r) p
         go false = tt
 
-    character-below : (p : Printer) → ColumnSure r.column → Obeys o p (character o r w) → Agrees r p → Below (limit o) (prints_all p (character o r w))
-    character-below p sure obeys a =
+    character_below : (p : Printer) → ColumnSure r.column → Obeys o p (character o r w) → Agrees r p → Below (limit o) (prints_all p (character o r w))
+    character_below p sure obeys a =
         let e = ending_before o r w in
         let q = hears p e in
         let cs = send_as o (notes o r e).case w.case w.code in
         let b = agreement o r p e (obeys_append o p e cs obeys).0 a in
         rw (prints_append p e cs, code_prints o (notes o r e) q w.case w.code b)
-        (below_append (limit o) (prints_all p e) (prints_as (kind_of w.code) (mark_as (kind_of w.code) w.case q.count w.code)) (ending-below p)
+        (below_append (limit o) (prints_all p e) (prints_as (kind_of w.code) (mark_as (kind_of w.code) w.case q.count w.code)) (ending_below p)
         (mark_below (limit o) (kind_of w.code) w.case q.count w.code
-        (λ h. count_below (limit o) (notes o r e).column q.count t.most (ending_keeps o r w sure) b.column (below-limit h))))
+        (λ h. count_below (limit o) (notes o r e).column q.count t.most (ending_keeps o r w sure) b.column (below_limit h))))
 
 -- every space and struck character of an item and of its ending
 module _ (o : Settings) (h : sound_settings o ≡ true) (on : endings o ≡ true) where
-  pub item-below : (s : Sender) (p : Printer) (w : Wanted) → ColumnSure s.held.column → Obeys o p (item o s w) → Agrees s.held p → Below (limit o) (prints_all p (item o s w))
-  item-below s p w sure obeys a =
-      item_cases o s w (λ cs. Obeys o p cs → Below (limit o) (prints_all p cs)) (λ h. tt) (λ q. character-below o (sound o h) on s.held w p sure q a) obeys
+  pub item_below : (s : Sender) (p : Printer) (w : Wanted) → ColumnSure s.held.column → Obeys o p (item o s w) → Agrees s.held p → Below (limit o) (prints_all p (item o s w))
+  item_below s p w sure obeys a =
+      item_cases o s w (λ cs. Obeys o p cs → Below (limit o) (prints_all p cs)) (λ h. tt) (λ q. character_below o (sound o h) on s.held w p sure q a) obeys
 
   pub items_below : (s : Sender) (p : Printer) (ws : List Wanted) → ColumnSure s.held.column → Obeys o p (items o s ws) → Agrees s.held p → Below (limit o) (prints_all p (items o s ws))
   items_below s p [] sure obeys a = tt
@@ -140,5 +140,5 @@ module _ (o : Settings) (h : sound_settings o ≡ true) (on : endings o ≡ true
       let t = items o (after_item o s w) ws in
       let both = obeys_append o p cs t obeys in
       rw (prints_append p cs t)
-      (below_append (limit o) (prints_all p cs) (prints_all (hears p cs) t) (item-below s p w sure both.0 a)
+      (below_append (limit o) (prints_all p cs) (prints_all (hears p cs) t) (item_below s p w sure both.0 a)
       (items_below (after_item o s w) (hears p cs) ws (column_told o s (w ∷ []) true (λ h. sure) refl) both.1 (agreement o s.held p cs both.0 a)))

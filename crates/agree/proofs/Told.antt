@@ -32,31 +32,31 @@ module _ (o : Settings) (K : Record → Type 0) (f : Kind → Bool) (code : (r :
   told_none : (r : Record) → Told o K f r []
   told_none r b before h = before (sym (or-false b) ∙ h)
 
-  told-append : (r : Record) (xs ys : List ℕ) → Told o K f r xs → Told o K f (notes o r xs) ys → Told o K f r (xs ++ ys)
-  told-append r xs ys t u b before h = rw (notes_append o r xs ys) (u (b || holds f xs) (t b before) (or_assoc b (holds f xs) (holds f ys) ∙ rw (holds_append f xs ys) at h))
+  told_append : (r : Record) (xs ys : List ℕ) → Told o K f r xs → Told o K f (notes o r xs) ys → Told o K f r (xs ++ ys)
+  told_append r xs ys t u b before h = rw (notes_append o r xs ys) (u (b || holds f xs) (t b before) (or_assoc b (holds f xs) (holds f ys) ∙ rw (holds_append f xs ys) at h))
 
-  told-string : (r : Record) (cs : List ℕ) → Told o K f r (ending_of o r cs)
-  told-string r [] = told_none r
-  told-string r (c ∷ cs) =
+  told_string : (r : Record) (cs : List ℕ) → Told o K f r (ending_of o r cs)
+  told_string r [] = told_none r
+  told_string r (c ∷ cs) =
       let s = ending_code o r.case c in
-      told-append r s (ending_of o (notes o r s) cs) (code r (on_record r.case) c) (told-string (notes o r s) cs)
+      told_append r s (ending_of o (notes o r s) cs) (code r (on_record r.case) c) (told_string (notes o r s) cs)
 
-  pub told-before : (r : Record) (w : Wanted) → Told o K f r (ending_before o r w)
-  told-before r w = go (moves w.case (kind_of w.code) && due o r.column)
+  pub told_before : (r : Record) (w : Wanted) → Told o K f r (ending_before o r w)
+  told_before r w = go (moves w.case (kind_of w.code) && due o r.column)
     where
       go : (b : Bool) → Told o K f r (ending o r b)
-      go true = told-string r (until_zero (ending_codes o))
+      go true = told_string r (until_zero (ending_codes o))
       go false = told_none r
 
-  told-item : (s : Sender) (w : Wanted) → Told o K f s.held (item o s w)
-  told-item s w =
+  told_item : (s : Sender) (w : Wanted) → Told o K f s.held (item o s w)
+  told_item s w =
       let e = ending_before o s.held w in
       item_cases o s w (Told o K f s.held) (told_none s.held)
-      (told-append s.held e (send_as o (notes o s.held e).case w.case w.code) (told-before s.held w) (code (notes o s.held e) w.case w.code))
+      (told_append s.held e (send_as o (notes o s.held e).case w.case w.code) (told_before s.held w) (code (notes o s.held e) w.case w.code))
 
-  pub told-items : (s : Sender) (ws : List Wanted) → Told o K f s.held (items o s ws)
-  told-items s [] = told_none s.held
-  told-items s (w ∷ ws) = told-append s.held (item o s w) (items o (after_item o s w) ws) (told-item s w) (told-items (after_item o s w) ws)
+  pub told_items : (s : Sender) (ws : List Wanted) → Told o K f s.held (items o s ws)
+  told_items s [] = told_none s.held
+  told_items s (w ∷ ws) = told_append s.held (item o s w) (items o (after_item o s w) ws) (told_item s w) (told_items (after_item o s w) ws)
 
 -- The column: a return tells it.
 
@@ -98,12 +98,12 @@ column_code o r want c b before h = rw (record_after o r want c) (go (kind_of c)
 
 -- an ending keeps it
 pub ending_keeps : (o : Settings) (r : Record) (w : Wanted) → ColumnSure r.column → ColumnSure (notes o r (ending_before o r w)).column
-ending_keeps o r w f = told-before o (λ q. ColumnSure q.column) is_return (column_code o) r w true (λ h. f) refl
+ending_keeps o r w f = told_before o (λ q. ColumnSure q.column) is_return (column_code o) r w true (λ h. f) refl
 
 -- on record before, or a return among the codes of the items: on record after them
 pub column_told : (o : Settings) (s : Sender) (ws : List Wanted) (b : Bool) → (b ≡ true → ColumnSure s.held.column)
     → (b || holds is_return (items o s ws)) ≡ true → ColumnSure (after_items o s ws).held.column
-column_told o s ws b before h = rw (items_noted o s ws) (told-items o (λ q. ColumnSure q.column) is_return (column_code o) s ws b before h)
+column_told o s ws b before h = rw (items_noted o s ws) (told_items o (λ q. ColumnSure q.column) is_return (column_code o) s ws b before h)
 
 -- The case: a shift or a code that depends on case tells it.
 
@@ -126,4 +126,4 @@ case_code o r want c b before h = rw (record_after o r want c) (go (kind_of c) r
 
 pub case_told : (o : Settings) (s : Sender) (ws : List Wanted) (b : Bool) → (b ≡ true → CaseSure s.held.case)
     → (b || holds is_cased (items o s ws)) ≡ true → CaseSure (after_items o s ws).held.case
-case_told o s ws b before h = rw (items_noted o s ws) (told-items o (λ q. CaseSure q.case) is_cased (case_code o) s ws b before h)
+case_told o s ws b before h = rw (items_noted o s ws) (told_items o (λ q. CaseSure q.case) is_cased (case_code o) s ws b before h)

@@ -34,8 +34,8 @@ module _ (t : Stream) (b xs : List ℕ) (n m : ℕ) where
       go false y h = refl
 
   -- and on the spelling of a sound state the box takes bytes
-  pub taken-on : spells_sound b ≡ true → asked t b xs n m ≡ taking t (state_of b) xs n m
-  taken-on = go (spells b) (sound (state_of b))
+  pub taken_on : spells_sound b ≡ true → asked t b xs n m ≡ taking t (state_of b) xs n m
+  taken_on = go (spells b) (sound (state_of b))
     where
       go : (x y : Bool) → x && y ≡ true → begun x y ≡ taking t (state_of b) xs n m
       go true true h = refl
@@ -51,7 +51,7 @@ module _ (t : Stream) (b xs : List ℕ) (n m : ℕ) where
   -- bytes that spell a sound state: the box's own call is told
   pub boarded : (old₁ old₂ now₁ now₂ : List ℕ) (r : Called) → spells_sound b ≡ true → Calls (taking t (state_of b) xs n m) old₁ old₂ now₁ now₂ r → Boards b (asked t b xs n m) old₁ old₂ (spelt r.state) now₁ now₂ (r.taken ∷ r.first ∷ r.second ∷ []) (number_of r.answer)
   boarded old₁ old₂ now₁ now₂ r h e =
-      subst (λ (d : Done). Boards b d old₁ old₂ (spelt r.state) now₁ now₂ (r.taken ∷ r.first ∷ r.second ∷ []) (number_of r.answer)) (sym (taken-on h))
+      subst (λ (d : Done). Boards b d old₁ old₂ (spelt r.state) now₁ now₂ (r.taken ∷ r.first ∷ r.second ∷ []) (number_of r.answer)) (sym (taken_on h))
       (record {
         answer = ap (λ (x : Told). x.answer) e.gives;
         bytes = rw h (ap (λ (x : Told). spelt x.state) e.gives);

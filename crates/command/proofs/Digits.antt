@@ -42,7 +42,7 @@ module _ (v : Verb) (last : ℕ) (values : List ℕ) (inside : last < length val
       rw (turn Digits n b p.0 refl) (run (n * 10 + (b - 48)) bs p.1)
 
   -- a field that was just opened, after a run of digits, holds their number modulo 256
-  pub digits-read : (b : ℕ) (bs : List ℕ) → all_digits (b ∷ bs) ≡ true → after (in_field v Empty last (set values last 0)).reader (b ∷ bs) ≡ (in_field v Digits last (set values last (number 0 (b ∷ bs) % 256))).reader
-  digits-read b bs h =
+  pub digits_read : (b : ℕ) (bs : List ℕ) → all_digits (b ∷ bs) ≡ true → after (in_field v Empty last (set values last 0)).reader (b ∷ bs) ≡ (in_field v Digits last (set values last (number 0 (b ∷ bs) % 256))).reader
+  digits_read b bs h =
       let p = both (is_digit b) (all_digits bs) h in
       rw (turn Empty 0 b p.0 refl) (run (0 * 10 + (b - 48)) bs p.1)

@@ -56,11 +56,11 @@ module _ {s : Stage} {values : List ℕ} where
   holds : (out : Out) → proper out ≡ true → Leads s values (at Held out)
   holds out p = plain Held out refl p
 
-  leads-afresh : (b : ℕ) → Leads s values (afresh b)
-  leads-afresh b = either (eqb b 47) (holds Nothing refl) (plain Text (One b) refl refl)
+  leads_afresh : (b : ℕ) → Leads s values (afresh b)
+  leads_afresh b = either (eqb b 47) (holds Nothing refl) (plain Text (One b) refl refl)
 
-  leads-inside : (b : ℕ) (finished : Out) {other : Step} → proper finished ≡ true → Leads s values other → Leads s values (inside b finished other)
-  leads-inside b finished p l = either (ends b) (plain (over b) finished (sound_over b) p) (either (eqb b 47) (holds Nothing refl) l)
+  leads_inside : (b : ℕ) (finished : Out) {other : Step} → proper finished ≡ true → Leads s values other → Leads s values (inside b finished other)
+  leads_inside b finished p l = either (ends b) (plain (over b) finished (sound_over b) p) (either (eqb b 47) (holds Nothing refl) l)
 
 leads_field : (v : Verb) (f : Form) (last : ℕ) (values : List ℕ) (b : ℕ) → Leads (Fields v f last) values (field v f last values b)
 leads_field v f last values b = either (eqb b 44) opens (either (is_digit b) (more f) (either (eqb b 88) (alone f) discards))
@@ -76,14 +76,14 @@ leads_field v f last values b = either (eqb b 44) opens (either (is_digit b) (mo
     alone Ex = discards
 
 leads : (s : Stage) (values : List ℕ) (b : ℕ) → Leads s values (read_at s values b)
-leads Text values b = leads-afresh b
-leads Swallow values b = either (eqb b 10) (plain Text Nothing refl refl) (leads-afresh b)
+leads Text values b = leads_afresh b
+leads Swallow values b = either (eqb b 10) (plain Text Nothing refl refl) (leads_afresh b)
 leads Held values b = either (eqb b 46) (plain Begun Nothing refl refl) (either (eqb b 47) (holds (One 47) refl) (plain Text (Two b) refl refl))
-leads Begun values b = leads-inside b Nothing refl (either (is_small b || is_capital b) (plain (Lettered (is_small b) (is_letter 84 b)) Nothing refl refl) discards)
-leads (Lettered small t) values b = leads-inside b Nothing refl (either (alike small b) (plain (Typed (verb t b)) Nothing refl refl) discards)
-leads (Typed v) values b = leads-inside b Nothing refl (either (eqb b 44) (begins v) discards)
-leads (Fields v f last) values b = leads-inside b (finish v last) (proper_finish v last) (leads_field v f last values b)
-leads Discard values b = leads-inside b Nothing refl discards
+leads Begun values b = leads_inside b Nothing refl (either (is_small b || is_capital b) (plain (Lettered (is_small b) (is_letter 84 b)) Nothing refl refl) discards)
+leads (Lettered small t) values b = leads_inside b Nothing refl (either (alike small b) (plain (Typed (verb t b)) Nothing refl refl) discards)
+leads (Typed v) values b = leads_inside b Nothing refl (either (eqb b 44) (begins v) discards)
+leads (Fields v f last) values b = leads_inside b (finish v last) (proper_finish v last) (leads_field v f last values b)
+leads Discard values b = leads_inside b Nothing refl discards
 
 sound_leads : {s : Stage} {values : List ℕ} {n : Step} → Leads s values n → sound_stage s ≡ true → sound_stage n.reader.stage ≡ true
 sound_leads (plain stage out p q) h = p

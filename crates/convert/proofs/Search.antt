@@ -38,9 +38,9 @@ module _ (case : Case) (b : ℕ) (other : Conversion) where
   seek_found xs ys h = from 0 xs ys h ∙ ap (found case) (zero-add (place_in (xs ++ ys) b))
 
   -- one that stands past it has none in this row
-  pub seek-other : (i : ℕ) (xs ys : List ℕ) → length xs ≤ place_in (xs ++ ys) b → seek case i xs b other ≡ other
-  seek-other i [] ys h = refl
-  seek-other i (x ∷ xs) ys h = go (eqb x b) (seek-other (suc i) xs ys) h
+  pub seek_other : (i : ℕ) (xs ys : List ℕ) → length xs ≤ place_in (xs ++ ys) b → seek case i xs b other ≡ other
+  seek_other i [] ys h = refl
+  seek_other i (x ∷ xs) ys h = go (eqb x b) (seek_other (suc i) xs ys) h
     where
       go : (t : Bool) → (length xs ≤ place_in (xs ++ ys) b → seek case (suc i) xs b other ≡ other) → suc (length xs) ≤ cond t 0 (suc (place_in (xs ++ ys) b)) → cond t (found case i) (seek case (suc i) xs b other) ≡ other
       go true rest h = absurd (not-suc-le-zero h)
@@ -52,21 +52,21 @@ module _ (b p : ℕ) (e : p ≡ place_in (letters ++ figures) (capital b)) where
   unfolding conversion
   in_letters h = rw e (sym (seek_found Letters (capital b) (seek Figures 0 figures (capital b) Nothing) letters figures (rw e at h)))
 
-  no-letter : 32 ≤ p → conversion b ≡ seek Figures 0 figures (capital b) Nothing
+  no_letter : 32 ≤ p → conversion b ≡ seek Figures 0 figures (capital b) Nothing
   unfolding conversion
-  no-letter h = seek-other Letters (capital b) (seek Figures 0 figures (capital b) Nothing) 0 letters figures (rw e at h)
+  no_letter h = seek_other Letters (capital b) (seek Figures 0 figures (capital b) Nothing) 0 letters figures (rw e at h)
 
   behind : 32 ≤ p → p ≡ 32 + place_in figures (capital b)
   behind h = e ∙ past (capital b) letters figures (rw e at h)
 
-  pub in-figures : 32 ≤ p → p < 64 → found Figures (p - 32) ≡ conversion b
-  in-figures h k =
+  pub in_figures : 32 ≤ p → p < 64 → found Figures (p - 32) ≡ conversion b
+  in_figures h k =
       let q : place_in figures (capital b) ≡ p - 32 = omega (arith, behind h) in
       let l : place_in figures (capital b) < 32 = omega (arith, behind h) in
-      sym (no-letter h ∙ seek_found Figures (capital b) Nothing figures [] l ∙ ap (found Figures) q)
+      sym (no_letter h ∙ seek_found Figures (capital b) Nothing figures [] l ∙ ap (found Figures) q)
 
-  pub in-neither : 64 ≤ p → Nothing ≡ conversion b
-  in-neither k =
+  pub in_neither : 64 ≤ p → Nothing ≡ conversion b
+  in_neither k =
       let h : 32 ≤ p = omega arith in
       let l : 32 ≤ place_in figures (capital b) = omega (arith, behind h) in
-      sym (no-letter h ∙ seek-other Figures (capital b) Nothing 0 figures [] l)
+      sym (no_letter h ∙ seek_other Figures (capital b) Nothing 0 figures [] l)

@@ -13,36 +13,36 @@ use Rattle.demands.specs.Asks.{asks_by}
 use Rattle.demands.specs.Whole.{asks_all}
 
 module _ (s : State) (x : Sender) where
-  hosted-apart : (r : Reader) (out : Out) → let y = (hosted (with_reader (with_sender s x) r) s.reader.values out).state in y ≡ with_sender (hosted (with_reader s r) s.reader.values out).state y.sender
+  hosted_apart : (r : Reader) (out : Out) → let y = (hosted (with_reader (with_sender s x) r) s.reader.values out).state in y ≡ with_sender (hosted (with_reader s r) s.reader.values out).state y.sender
   unfolding motor_after
-  hosted-apart r Nothing = refl
-  hosted-apart r (One b) = refl
-  hosted-apart r (Two b) = refl
-  hosted-apart r (Finished v count) = refl
+  hosted_apart r Nothing = refl
+  hosted_apart r (One b) = refl
+  hosted_apart r (Two b) = refl
+  hosted_apart r (Finished v count) = refl
 
-  lined-apart : (k : Route) (c : ℕ) → let y = (lined k (with_sender s x) c).state in y ≡ with_sender (lined k s c).state y.sender
-  lined-apart Dropped c = refl
-  lined-apart ToPrinter c = refl
-  lined-apart ToHost c = refl
-  lined-apart ToTu c = refl
+  lined_apart : (k : Route) (c : ℕ) → let y = (lined k (with_sender s x) c).state in y ≡ with_sender (lined k s c).state y.sender
+  lined_apart Dropped c = refl
+  lined_apart ToPrinter c = refl
+  lined_apart ToHost c = refl
+  lined_apart ToTu c = refl
 
-  tued-apart : (k : Route) (c : ℕ) → let y = (tued k (with_sender s x) c).state in y ≡ with_sender (tued k s c).state y.sender
+  tued_apart : (k : Route) (c : ℕ) → let y = (tued k (with_sender s x) c).state in y ≡ with_sender (tued k s c).state y.sender
   unfolding motor_after
-  tued-apart Dropped c = refl
-  tued-apart ToPrinter c = refl
-  tued-apart ToHost c = refl
-  tued-apart ToTu c = refl
+  tued_apart Dropped c = refl
+  tued_apart ToPrinter c = refl
+  tued_apart ToHost c = refl
+  tued_apart ToTu c = refl
 
   -- a byte leaves the same state, but for the sender
-  step-apart : (t : Stream) (b : ℕ) → let y = (step t (with_sender s x) b).state in y ≡ with_sender (step t s b).state y.sender
-  step-apart Host b = hosted-apart (read s.reader b).reader (read s.reader b).out
-  step-apart Line b = lined-apart (route s.connection Line) b
-  step-apart Tu b = tued-apart (route s.connection Tu) b
+  step_apart : (t : Stream) (b : ℕ) → let y = (step t (with_sender s x) b).state in y ≡ with_sender (step t s b).state y.sender
+  step_apart Host b = hosted_apart (read s.reader b).reader (read s.reader b).out
+  step_apart Line b = lined_apart (route s.connection Line) b
+  step_apart Tu b = tued_apart (route s.connection Tu) b
 
-  asks-apart : (t : Stream) (b : ℕ) → asks_by t (with_sender s x) b ≡ asks_by t s b
-  asks-apart Host b = refl
-  asks-apart Line b = refl
-  asks-apart Tu b = refl
+  asks_apart : (t : Stream) (b : ℕ) → asks_by t (with_sender s x) b ≡ asks_by t s b
+  asks_apart Host b = refl
+  asks_apart Line b = refl
+  asks_apart Tu b = refl
 
 -- whatever it holds
 pub asked_apart : (s : State) (x : Sender) (es : List Event) → asks_all (with_sender s x) es ≡ asks_all s es
@@ -50,6 +50,6 @@ asked_apart s x [] = refl
 asked_apart s x (e ∷ es) =
     let y = (step e.stream (with_sender s x) e.byte).state in
     let z = (step e.stream s e.byte).state in
-    ap (λ (q : State). asks_by e.stream (with_sender s x) e.byte ++ asks_all q es) (step-apart s x e.stream e.byte)
-    ∙ ap (λ (cs : List ℕ). cs ++ asks_all (with_sender z y.sender) es) (asks-apart s x e.stream e.byte)
+    ap (λ (q : State). asks_by e.stream (with_sender s x) e.byte ++ asks_all q es) (step_apart s x e.stream e.byte)
+    ∙ ap (λ (cs : List ℕ). cs ++ asks_all (with_sender z y.sender) es) (asks_apart s x e.stream e.byte)
     ∙ ap (λ (cs : List ℕ). asks_by e.stream s e.byte ++ cs) (asked_apart z y.sender es)

@@ -28,7 +28,7 @@ use Rattle.demands.specs.Printing.{Holds}
 use Rattle.demands.specs.Whole.{own_of, asks_all}
 use Rattle.demands.specs.Example.{calls, bytes, first, joining, codes, asked}
 use Rattle.demands.proofs.Lent.{ours_prints}
-use Rattle.demands.proofs.Whole.{own-prints}
+use Rattle.demands.proofs.Whole.{own_prints}
 
 -- Obedience as a test.
 
@@ -104,4 +104,4 @@ unfolding conversion kind_of row_at digits sound_string row route sound_stand_in
 example_asked = refl
 
 pub example_own : own_of joining 0 (start first) (took_all (exchanges ours fresh_box calls)) example ≡ asked
-example_own = own-prints joining 0 (start first) (took_all (exchanges ours fresh_box calls)) example ∙ ap (asks_all fresh_box) example_bytes ∙ example_asked
+example_own = own_prints joining 0 (start first) (took_all (exchanges ours fresh_box calls)) example ∙ ap (asks_all fresh_box) example_bytes ∙ example_asked

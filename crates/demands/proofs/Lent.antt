@@ -64,20 +64,20 @@ meets_prints ms met = rw (all_sent fresh_box ms met, left_run fresh_box ms met) 
 
 -- Demands 2 and 3 of every box that meets demand 1.
 module _ (box : Box) (every : EveryCall box) where
-  box-meets : (s : State) (gs : List Lent) → Meets s (exchanges box s gs)
-  box-meets s [] = tt
-  box-meets s (g ∷ gs) = (every g.stream s g.bytes g.one g.two, box-meets (box g.stream s g.bytes g.one g.two).gives.state gs)
+  box_meets : (s : State) (gs : List Lent) → Meets s (exchanges box s gs)
+  box_meets s [] = tt
+  box_meets s (g ∷ gs) = (every g.stream s g.bytes g.one g.two, box_meets (box g.stream s g.bytes g.one g.two).gives.state gs)
 
-  pub box-reads-back : ReadingBack box
-  box-reads-back start gs = meets_reads_back start (exchanges box start gs) (box-meets start gs)
+  pub box_reads_back : ReadingBack box
+  box_reads_back start gs = meets_reads_back start (exchanges box start gs) (box_meets start gs)
 
-  pub box-prints : Printing box
-  box-prints gs = meets_prints (exchanges box fresh_box gs) (box-meets fresh_box gs)
+  pub box_prints : Printing box
+  box_prints gs = meets_prints (exchanges box fresh_box gs) (box_meets fresh_box gs)
 
 pub ours_reads_back : ReadingBack ours
-ours_reads_back = box-reads-back ours ours_every_call
+ours_reads_back = box_reads_back ours ours_every_call
 
 -- Every character asked for prints as itself, in order, and nothing else but endings; a case on record is the printer's and a column
 -- on record its count; after the first return, with 49 on, what lands lands below the limit.
 pub ours_prints : Printing ours
-ours_prints = box-prints ours ours_every_call
+ours_prints = box_prints ours ours_every_call

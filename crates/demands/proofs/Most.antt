@@ -15,11 +15,11 @@ use Rattle.code.specs.Rows.{row_at}
 use Rattle.command.specs.Read.{read}
 use Rattle.settings.specs.Laws.{Sound}
 use Rattle.settings.specs.Options.{reports, ending_codes}
-use Rattle.settings.proofs.Sent.{answers-short}
+use Rattle.settings.proofs.Sent.{answers_short}
 use Rattle.sender.specs.Item.{wanted}
 use Rattle.sender.specs.Reading.{read_case}
 use Rattle.sender.proofs.Few.{text_few}
-use Rattle.agree.proofs.Length.{item-length, items-length}
+use Rattle.agree.proofs.Length.{item_length, items_length}
 use Rattle.step.specs.Route.{route}
 use Rattle.step.specs.State.{sound, with_reader, with_incoming}
 use Rattle.step.proofs.Hearing.{told_few}
@@ -40,13 +40,13 @@ text_two o ToHost bs h = lit≤ tt
 text_two o ToTu bs h = lit≤ tt
 
 sends_few : (s : State) (ws : List Wanted) → Sound s.settings s.calling s.connection → length ws ≤ 2 → Few Host (sends s ws)
-sends_few s ws h few = record { line = items-length s.settings h.settings s.sender ws few; host = omega (arith, told_few s ws, few); tu = lit≤ tt }
+sends_few s ws h few = record { line = items_length s.settings h.settings s.sender ws few; host = omega (arith, told_few s ws, few); tu = lit≤ tt }
 
 hosted_few : (s : State) (fields : List ℕ) (out : Out) → length fields ≡ 11 → Sound s.settings s.calling s.connection → Few Host (hosted s fields out)
 hosted_few s fields Nothing l h = record { line = lit≤ tt; host = lit≤ tt; tu = lit≤ tt }
 hosted_few s fields (One b) l h = sends_few s (text s.settings (route s.connection Host) (b ∷ [])) h (text_two s.settings (route s.connection Host) (b ∷ []) (lit≤ tt))
 hosted_few s fields (Two b) l h = sends_few s (text s.settings (route s.connection Host) (47 ∷ b ∷ [])) h (text_two s.settings (route s.connection Host) (47 ∷ b ∷ []) (lit≤ tt))
-hosted_few s fields (Finished v count) l h = record { line = lit≤ tt; host = (answers-short s.settings s.calling s.connection h v count fields l).short; tu = lit≤ tt }
+hosted_few s fields (Finished v count) l h = record { line = lit≤ tt; host = (answers_short s.settings s.calling s.connection h v count fields l).short; tu = lit≤ tt }
 
 read_few : (reports : Bool) (case : Case) (k : Kind) (c : ℕ) → length (read_as reports case k c) ≤ 1
 read_few reports case k c = go (is_read reports k)
@@ -64,7 +64,7 @@ lined_few ToTu s c = record { line = lit≤ tt; host = lit≤ tt; tu = lit≤ tt
 tued_few : (k : Route) (s : State) (c : ℕ) → Sound s.settings s.calling s.connection → Few Tu (tued k s c)
 tued_few Dropped s c h = record { line = lit≤ tt; host = lit≤ tt; tu = lit≤ tt }
 tued_few ToPrinter s c h = record {
-  line = rw append-nil (item-length s.settings h.settings s.sender (wanted s.incoming c));
+  line = rw append-nil (item_length s.settings h.settings s.sender (wanted s.incoming c));
   host = told_few (with_incoming s (read_case s.settings s.incoming (kind_of c))) (wanted s.incoming c ∷ []);
   tu = lit≤ tt;
 }
@@ -97,11 +97,11 @@ few_forty Line x f = (omega (arith, f.line), (omega (arith, f.host), omega (arit
 few_forty Tu x f = (omega (arith, f.line), (omega (arith, f.host), omega (arith, f.tu)))
 
 module _ (t : Stream) (s : State) (b : ℕ) (h : sound s ≡ true) where
-  pub most-first : length (first_of t (step t s b)) ≤ most_first t
-  most-first = few_first t (step t s b) (most t s b h)
+  pub most_first_law : length (first_of t (step t s b)) ≤ most_first t
+  most_first_law = few_first t (step t s b) (most t s b h)
 
-  pub most-second : length (second_of t (step t s b)) ≤ most_second t
-  most-second = few_second t (step t s b) (most t s b h)
+  pub most_second_law : length (second_of t (step t s b)) ≤ most_second t
+  most_second_law = few_second t (step t s b) (most t s b h)
 
   -- one byte never makes more than 40 codes or 40 host bytes
   pub forty : (length (step t s b).line ≤ 40) × ((length (step t s b).host ≤ 40) × (length (step t s b).tu ≤ 40))
@@ -114,8 +114,8 @@ goes_on t s xs a b ra rb e = go (call t s xs a b).taken (rw e at (ends t s xs a 
     go : (n : ℕ) → Ends t s xs a b 1 n → 1 ≤ n
     go zero p =
         let x = get_or xs 0 0 in
-        let f : length (first_of t (step t s x)) ≤ a = omega (arith, most-first t s x p.state) in
-        let g : length (second_of t (step t s x)) ≤ b = omega (arith, most-second t s x p.state) in
+        let f : length (first_of t (step t s x)) ≤ a = omega (arith, most_first_law t s x p.state) in
+        let g : length (second_of t (step t s x)) ≤ b = omega (arith, most_second_law t s x p.state) in
         let h : fits_at t s xs a b 0 ≡ true = rw (sub-zero, sub-zero, le-leb _ _ f, le-leb _ _ g) in
         absurd (true≢false (sym h ∙ p.next.1.1))
     go (suc n) p = omega arith

@@ -21,10 +21,10 @@ use Rattle.demands.specs.Items.{items_of}
 use Rattle.demands.specs.Lent.{lines}
 use Rattle.demands.specs.Story.{Scene, start, does, turned, Obedient}
 use Rattle.demands.specs.Printing.{Keeps, Holds, Prints}
-use Rattle.demands.proofs.Sending.{line-items, sender-items}
+use Rattle.demands.proofs.Sending.{line_items, sender_items}
 use Rattle.demands.proofs.Reading.{items_read}
-use Rattle.demands.proofs.Stretches.{items-printed}
-use Rattle.demands.proofs.Landing.{items-within}
+use Rattle.demands.proofs.Stretches.{items_printed}
+use Rattle.demands.proofs.Landing.{items_within}
 
 record Stands (x : Scene) : Type 0 where
   sound : sound x.state ≡ true
@@ -42,47 +42,47 @@ module _ (x : Scene) (e : Event) (other : Printer) (stands : Stands x) (obeys : 
   ws = items_of x.state e
 
   -- what is obeyed of the line is obeyed of the items
-  obeys-items : Obeys o x.printer (items o sender ws)
-  obeys-items = rw (line-items x.state e) at obeys
+  obeys_items : Obeys o x.printer (items o sender ws)
+  obeys_items = rw (line_items x.state e) at obeys
 
   keeps : Keeps x e
   unfolding ending_codes
   keeps = record {
     agrees = stands.agrees;
-    printed = rw (line-items x.state e, ← items_read x.state e) (items-printed o sender x.printer ws obeys-items stands.agrees);
+    printed = rw (line_items x.state e, ← items_read x.state e) (items_printed o sender x.printer ws obeys_items stands.agrees);
     margin = λ on.
         let parts = sound_parts x.state stands.sound in
-        rw (line-items x.state e) (items-within o parts.held.settings on sender x.printer ws x.returned stands.sure obeys-items stands.agrees);
+        rw (line_items x.state e) (items_within o parts.held.settings on sender x.printer ws x.returned stands.sure obeys_items stands.agrees);
   }
 
   -- The same stands after the byte.
 
   -- a connection leaves nothing on record
-  sender-after : (b : Bool) → connects x.state e ≡ b → (turned x e other).state.sender ≡ cond b fresh (after_items o sender ws)
-  sender-after b c = sender-items x.state e ∙ ap (λ (q : Bool). cond q fresh (after_items o sender ws)) c
+  sender_after : (b : Bool) → connects x.state e ≡ b → (turned x e other).state.sender ≡ cond b fresh (after_items o sender ws)
+  sender_after b c = sender_items x.state e ∙ ap (λ (q : Bool). cond q fresh (after_items o sender ws)) c
 
   -- a byte that does not connect: the printer has heard its codes, and a return among them tells the column
   heard : Agrees (after_items o sender ws).held (hears x.printer (does x e).line)
-  heard = rw (items_noted o sender ws, line-items x.state e) (agreement o sender.held x.printer (items o sender ws) obeys-items stands.agrees)
+  heard = rw (items_noted o sender ws, line_items x.state e) (agreement o sender.held x.printer (items o sender ws) obeys_items stands.agrees)
 
   told : (x.returned || holds is_return (does x e).line) ≡ true → ColumnSure (after_items o sender ws).held.column
-  told q = column_told o sender ws x.returned stands.sure (rw (line-items x.state e) at q)
+  told q = column_told o sender ws x.returned stands.sure (rw (line_items x.state e) at q)
 
-  stands-turned : Stands (turned x e other)
-  stands-turned = go (connects x.state e) refl
+  stands_turned : Stands (turned x e other)
+  stands_turned = go (connects x.state e) refl
     where
       safe : sound (does x e).state ≡ true
       safe = sound_step e.stream x.state e.byte stands.sound
 
       go : (b : Bool) → connects x.state e ≡ b → Stands (turned x e other)
-      go true c = rw c (record { sound = safe; agrees = rw (sender-after true c) (unknown_agrees other); sure = λ q. absurd (false≢true q) })
-      go false c = rw c (record { sound = safe; agrees = rw (sender-after false c) heard; sure = λ q. rw (sender-after false c) (told q) })
+      go true c = rw c (record { sound = safe; agrees = rw (sender_after true c) (unknown_agrees other); sure = λ q. absurd (false≢true q) })
+      go false c = rw c (record { sound = safe; agrees = rw (sender_after false c) heard; sure = λ q. rw (sender_after false c) (told q) })
 
 holds_from : (joining : ℕ → Printer) (n : ℕ) (x : Scene) (es : List Event) → Stands x → Obedient joining n x es → Holds joining n x es
 holds_from joining n x [] h obeys = h.agrees
 holds_from joining n x (e ∷ es) h obeys =
     let other = joining n in
-    (keeps x e other h obeys.0, holds_from joining (suc n) (turned x e other) es (stands-turned x e other h obeys.0) obeys.1)
+    (keeps x e other h obeys.0, holds_from joining (suc n) (turned x e other) es (stands_turned x e other h obeys.0) obeys.1)
 
 -- What any bytes send from a fresh box prints.
 pub lines_print : (es : List Event) → Prints es (lines fresh_box es) (run fresh_box es)

@@ -22,7 +22,7 @@ use Rattle.step.specs.Route.{route}
 use Rattle.step.specs.State.{with_reader, with_reading}
 use Rattle.step.specs.Step.{Step, read_as, hosted, lined, line_step, tued, step, Event, run}
 use Rattle.linebox.specs.Ends.{events, firsts_of, Cut, Fed, feeding}
-use Rattle.settings.proofs.Written.{commanded-keeps}
+use Rattle.settings.proofs.Written.{commanded_keeps}
 use Rattle.linebox.proofs.Cutting.{cutting}
 use Rattle.step.proofs.Ways.{lined_touches, tued_touches}
 use Rattle.demands.specs.Names.{Case, Kind, Still, Space, Return, Shift, Char, Settings, Connection, ToHost, Printer, Reader, Out, Nothing, One, Two, Finished, State, Stream, Host, Line, Tu}
@@ -34,10 +34,10 @@ use Rattle.demands.specs.Printing.{characters_of}
 use Rattle.demands.specs.Whole.{asks_all}
 use Rattle.demands.specs.ReadingBack.{under, read_back, host_byte, host_bytes, host_force, texts, plain_text, AllPlain, Joins, ReadsBack}
 use Rattle.demands.proofs.Writes.{connected_by}
-use Rattle.demands.proofs.Sending.{line-items, sender-items}
+use Rattle.demands.proofs.Sending.{line_items, sender_items}
 use Rattle.demands.proofs.Sessions.{lines_append}
 use Rattle.demands.proofs.Reading.{items_read}
-use Rattle.demands.proofs.Stretches.{characters_append, items-printed, plain-printed}
+use Rattle.demands.proofs.Stretches.{characters_append, items_printed, plain_printed}
 
 -- A printer whose own habits are the options in force.
 
@@ -53,9 +53,9 @@ module _ (o : Settings) where
   obeys_at case n (Shift to) = tt
   obeys_at case n (Char bell) = tt
 
-  obeys-own : (case : Case) (n : ℕ) (cs : List ℕ) → Obeys o (follower o case n) cs
-  obeys-own case n [] = tt
-  obeys-own case n (c ∷ cs) = let q = hear (follower o case n) c in (obeys_at case n (kind_of c), obeys-own q.case q.count cs)
+  obeys_own : (case : Case) (n : ℕ) (cs : List ℕ) → Obeys o (follower o case n) cs
+  obeys_own case n [] = tt
+  obeys_own case n (c ∷ cs) = let q = hear (follower o case n) c in (obeys_at case n (kind_of c), obeys_own q.case q.count cs)
 
 -- and is the box's own reader of line codes: it goes to the same case
 unshifted_alike : (on : Bool) (case : Case) → unshifted_by on case ≡ unshifted on case
@@ -104,14 +104,14 @@ typed_reads s p cs e off case space return =
 -- Codes sent under the same settings, and others after them: if every reader in the case that the first ones leave reads `text` of the
 -- others, then all of them read as what the printer prints of the first, and `text`.
 module _ (o : Settings) (off : reports o ≡ false) (os : List Settings) (rest text : List ℕ) where
-  stretch-reads : (cs : List ℕ) (r : State) (n : ℕ) → r.connection.mode ≡ 1
+  stretch_reads : (cs : List ℕ) (r : State) (n : ℕ) → r.connection.mode ≡ 1
       → ((q : State) → q.connection.mode ≡ 1 → q.reading ≡ (hears (follower o r.reading n) cs).case → read_back q os rest ≡ text)
       → read_back r (replicate (length cs) o ++ os) (cs ++ rest) ≡ characters_of (prints_all (follower o r.reading n) cs) ++ text
-  stretch-reads [] r n e after = after r e refl
-  stretch-reads (c ∷ cs) r n e after =
+  stretch_reads [] r n e after = after r e refl
+  stretch_reads (c ∷ cs) r n e after =
       let p = follower o r.reading n in
       ap (λ (x : Step). x.host ++ read_back x.state (replicate (length cs) o ++ os) (cs ++ rest)) (one_read o off r n e c)
-      ∙ ap (λ (u : List ℕ). characters_of (prints p c) ++ u) (stretch-reads cs (with_reading (under o r) (hear p c).case) (hear p c).count e after)
+      ∙ ap (λ (u : List ℕ). characters_of (prints p c) ++ u) (stretch_reads cs (with_reading (under o r) (hear p c).case) (hear p c).count e after)
       ∙ rw (characters_append (prints p c) (prints_all (hear p c) cs), append_assoc)
 
 -- Plain events: what is read of them is what they ask for, by any reader that stands as the record says.
@@ -123,12 +123,12 @@ plain_reads s (x ∷ es) r n e a h =
     let p = follower o r.reading n in
     let ws = items_of s x in
     let d = step x.stream s x.byte in
-    let obeys : Obeys o p (items o s.sender ws) = obeys-own o r.reading n (items o s.sender ws) in
+    let obeys : Obeys o p (items o s.sender ws) = obeys_own o r.reading n (items o s.sender ws) in
     let one : characters_of (prints_all p d.line) ≡ asks s x =
-    plain-printed o h.0.endings p d.line (asks s x) (rw (line-items s x, ← items_read s x) (items-printed o s.sender p ws obeys a)) in
-    let after : d.state.sender ≡ after_items o s.sender ws = sender-items s x ∙ ap (λ (b : Bool). cond b fresh (after_items o s.sender ws)) h.0.stays in
-    let heard : Agrees d.state.sender.held (hears p d.line) = rw (after, items_noted o s.sender ws, line-items s x) (agreement o s.sender.held p (items o s.sender ws) obeys a) in
-    stretch-reads o h.0.reports (in_force d.state es) (lines d.state es) (asks_all d.state es) d.line r n e
+    plain_printed o h.0.endings p d.line (asks s x) (rw (line_items s x, ← items_read s x) (items_printed o s.sender p ws obeys a)) in
+    let after : d.state.sender ≡ after_items o s.sender ws = sender_items s x ∙ ap (λ (b : Bool). cond b fresh (after_items o s.sender ws)) h.0.stays in
+    let heard : Agrees d.state.sender.held (hears p d.line) = rw (after, items_noted o s.sender ws, line_items s x) (agreement o s.sender.held p (items o s.sender ws) obeys a) in
+    stretch_reads o h.0.reports (in_force d.state es) (lines d.state es) (asks_all d.state es) d.line r n e
     (λ q f same. plain_reads d.state es q (hears p d.line).count f (record { case = rw same heard.case; column = heard.column }) h.1)
     ∙ ap (λ (u : List ℕ). u ++ asks_all d.state es) one
 
@@ -138,7 +138,7 @@ hosted_stays : (s : State) (r : Reader) (out : Out) → writing connection_ids s
 hosted_stays s r Nothing h = refl
 hosted_stays s r (One b) h = refl
 hosted_stays s r (Two b) h = refl
-hosted_stays s r (Finished v count) h = commanded-keeps s.settings s.calling s.connection v count s.reader.values (connected_by s v count s.reader.values ∙ h)
+hosted_stays s r (Finished v count) h = commanded_keeps s.settings s.calling s.connection v count s.reader.values (connected_by s v count s.reader.values ∙ h)
 
 stays_by : (t : Stream) (s : State) (b : ℕ) → writes_by connection_ids t s b ≡ false → (step t s b).state.connection ≡ s.connection
 stays_by Host s b h = hosted_stays s (read s.reader b).reader (read s.reader b).out h
@@ -197,19 +197,19 @@ module _ (s : State) (e : Event) (j : Joins s e) where
   abbrev joined : State
   joined = (step e.stream s e.byte).state
 
-  joined-agrees : (p : Printer) → Agrees joined.sender.held p
-  joined-agrees p = rw (sender-items s e ∙ ap (λ (b : Bool). cond b fresh (after_items s.settings s.sender (items_of s e))) j.connects) (unknown_agrees p)
+  joined_agrees : (p : Printer) → Agrees joined.sender.held p
+  joined_agrees p = rw (sender_items s e ∙ ap (λ (b : Bool). cond b fresh (after_items s.settings s.sender (items_of s e))) j.connects) (unknown_agrees p)
 
   -- From the state that a successful mode 1 connection command hands back, whatever came before it: any plain events after it,
   -- line and TU codes among the host bytes too. The box's own reading of all codes sent is the convertible text in capitals
   -- without its shift requests.
   pub reads_back : (es : List Event) → AllPlain joined es → read_back joined (in_force joined es) (lines joined es) ≡ plain_text joined es
-  reads_back es h = plain_reads joined es joined 0 j.mode1 (joined-agrees (follower joined.settings joined.reading 0)) h ∙ asks_text joined es j.mode1 h
+  reads_back es h = plain_reads joined es joined 0 j.mode1 (joined_agrees (follower joined.settings joined.reading 0)) h ∙ asks_text joined es j.mode1 h
 
   -- The same of one host stream, cut into calls in any way and with any rooms, each going on at the first byte not taken.
-  pub cut-reads-back : (xs : List ℕ) (cs : List Cut) → AllPlain joined (events Host xs) → (feeding Host joined xs cs).taken ≡ length xs
+  pub cut_reads_back : (xs : List ℕ) (cs : List Cut) → AllPlain joined (events Host xs) → (feeding Host joined xs cs).taken ≡ length xs
       → read_back joined (in_force joined (events Host xs)) (feeding Host joined xs cs).first ≡ texts (host_force joined (events Host xs)) (made joined.reader xs)
-  cut-reads-back xs cs h all =
+  cut_reads_back xs cs h all =
       ap (λ (f : Fed). read_back joined (in_force joined (events Host xs)) f.first) (cutting Host joined xs cs all)
       ∙ reads_back (events Host xs) h
       ∙ ap (λ (bs : List ℕ). texts (host_force joined (events Host xs)) (made joined.reader bs)) (host_bytes_law xs)

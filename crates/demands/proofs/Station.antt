@@ -17,7 +17,7 @@ use Rattle.code.specs.Kinds.{kind_of, dependent}
 use Rattle.code.specs.Convert.{capital, found, seek, conversion as conversionOf}
 use Rattle.command.specs.Read.{read, text_of}
 use Rattle.settings.specs.Options.{stand_in}
-use Rattle.settings.proofs.Written.{commanded-lasts}
+use Rattle.settings.proofs.Written.{commanded_lasts}
 use Rattle.sender.specs.Item.{or_else, standing, spoken, wanted_of, wanted_text}
 use Rattle.motor.specs.Motor.{hearing_all, resting}
 use Rattle.motor.proofs.Calling.{sound_signals}
@@ -42,47 +42,47 @@ module _ (s : State) where
   abbrev none : text s.settings (route s.connection Host) [] ≡ []
   none = text_none s.settings (route s.connection Host)
 
-  hosted-motor : (r : Reader) (out : Out) → (hosted (with_reader s r) s.reader.values out).state.motor ≡ cond (writing forgetting_ids s out) resting (motor_after s (text s.settings (route s.connection Host) (text_of out)))
+  hosted_motor : (r : Reader) (out : Out) → (hosted (with_reader s r) s.reader.values out).state.motor ≡ cond (writing forgetting_ids s out) resting (motor_after s (text s.settings (route s.connection Host) (text_of out)))
   unfolding motor_after
-  hosted-motor r Nothing = rw none (sym (none_heard s))
-  hosted-motor r (One b) = refl
-  hosted-motor r (Two b) = refl
-  hosted-motor r (Finished v count) = rw (none, none_heard s, forgets_by s v count s.reader.values)
+  hosted_motor r Nothing = rw none (sym (none_heard s))
+  hosted_motor r (One b) = refl
+  hosted_motor r (Two b) = refl
+  hosted_motor r (Finished v count) = rw (none, none_heard s, forgets_by s v count s.reader.values)
 
-  hosted-calling : (r : Reader) (out : Out) → writing forgetting_ids s out ≡ false → (hosted (with_reader s r) s.reader.values out).state.calling ≡ s.calling
-  hosted-calling r Nothing e = refl
-  hosted-calling r (One b) e = refl
-  hosted-calling r (Two b) e = refl
-  hosted-calling r (Finished v count) e = (commanded-lasts s.settings s.calling s.connection v count s.reader.values (forgets_by s v count s.reader.values ∙ e)).1
+  hosted_calling : (r : Reader) (out : Out) → writing forgetting_ids s out ≡ false → (hosted (with_reader s r) s.reader.values out).state.calling ≡ s.calling
+  hosted_calling r Nothing e = refl
+  hosted_calling r (One b) e = refl
+  hosted_calling r (Two b) e = refl
+  hosted_calling r (Finished v count) e = (commanded_lasts s.settings s.calling s.connection v count s.reader.values (forgets_by s v count s.reader.values ∙ e)).1
 
-  tued-motor : (k : Route) (c : ℕ) → (tued k s c).state.motor ≡ motor_after s (carried_to k s c)
+  tued_motor : (k : Route) (c : ℕ) → (tued k s c).state.motor ≡ motor_after s (carried_to k s c)
   unfolding motor_after
-  tued-motor Dropped c = sym (none_heard s)
-  tued-motor ToPrinter c = refl
-  tued-motor ToHost c = sym (none_heard s)
-  tued-motor ToTu c = sym (none_heard s)
+  tued_motor Dropped c = sym (none_heard s)
+  tued_motor ToPrinter c = refl
+  tued_motor ToHost c = sym (none_heard s)
+  tued_motor ToTu c = sym (none_heard s)
 
-  tued-calling : (k : Route) (c : ℕ) → (tued k s c).state.calling ≡ s.calling
-  tued-calling Dropped c = refl
-  tued-calling ToPrinter c = refl
-  tued-calling ToHost c = refl
-  tued-calling ToTu c = refl
+  tued_calling : (k : Route) (c : ℕ) → (tued k s c).state.calling ≡ s.calling
+  tued_calling Dropped c = refl
+  tued_calling ToPrinter c = refl
+  tued_calling ToHost c = refl
+  tued_calling ToTu c = refl
 
-  motor-by : (t : Stream) (b : ℕ) → (step t s b).state.motor ≡ cond (writes_by forgetting_ids t s b) resting (motor_after s (items_by t s b))
-  motor-by Host b = hosted-motor (read s.reader b).reader (read s.reader b).out
-  motor-by Line b = ap (λ (x : State). x.motor) (lined_touches (route s.connection Line) s b) ∙ sym (none_heard s)
-  motor-by Tu b = tued-motor (route s.connection Tu) b
+  motor_by : (t : Stream) (b : ℕ) → (step t s b).state.motor ≡ cond (writes_by forgetting_ids t s b) resting (motor_after s (items_by t s b))
+  motor_by Host b = hosted_motor (read s.reader b).reader (read s.reader b).out
+  motor_by Line b = ap (λ (x : State). x.motor) (lined_touches (route s.connection Line) s b) ∙ sym (none_heard s)
+  motor_by Tu b = tued_motor (route s.connection Tu) b
 
-  calling-by : (t : Stream) (b : ℕ) → writes_by forgetting_ids t s b ≡ false → (step t s b).state.calling ≡ s.calling
-  calling-by Host b e = hosted-calling (read s.reader b).reader (read s.reader b).out e
-  calling-by Line b e = ap (λ (x : State). x.calling) (lined_touches (route s.connection Line) s b)
-  calling-by Tu b e = tued-calling (route s.connection Tu) b
+  calling_by : (t : Stream) (b : ℕ) → writes_by forgetting_ids t s b ≡ false → (step t s b).state.calling ≡ s.calling
+  calling_by Host b e = hosted_calling (read s.reader b).reader (read s.reader b).out e
+  calling_by Line b e = ap (λ (x : State). x.calling) (lined_touches (route s.connection Line) s b)
+  calling_by Tu b e = tued_calling (route s.connection Tu) b
 
   -- what is asked for is heard after what was
-  heard-on : (ws : List Wanted) (hs : List ℕ) → s.motor ≡ hearing_all s.calling resting hs
+  heard_on : (ws : List Wanted) (hs : List ℕ) → s.motor ≡ hearing_all s.calling resting hs
       → motor_after s ws ≡ hearing_all s.calling resting (hs ++ cond (listens s.calling s.connection) (codes_asked ws) [])
   unfolding motor_after
-  heard-on ws hs e = go (listens s.calling s.connection)
+  heard_on ws hs e = go (listens s.calling s.connection)
     where
       go : (b : Bool) → cond b (hearing_all s.calling s.motor (codes_asked ws)) s.motor ≡ hearing_all s.calling resting (hs ++ cond b (codes_asked ws) [])
       go true = rw e (sym (hearing_append s.calling resting hs (codes_asked ws)))
@@ -99,11 +99,11 @@ motor_on s e hs h = go (forgets s e) refl
     next = (step e.stream s e.byte).state
 
     go : (b : Bool) → forgets s e ≡ b → next.motor ≡ hearing_all next.calling resting (cond b [] (hs ++ hears s e))
-    go true f = rw f at (motor-by s e.stream e.byte)
+    go true f = rw f at (motor_by s e.stream e.byte)
     go false f =
-        rw f at (motor-by s e.stream e.byte)
-        ∙ heard-on s (items_of s e) hs h
-        ∙ ap (λ (k : Calling). hearing_all k resting (hs ++ hears s e)) (sym (calling-by s e.stream e.byte f))
+        rw f at (motor_by s e.stream e.byte)
+        ∙ heard_on s (items_of s e) hs h
+        ∙ ap (λ (k : Calling). hearing_all k resting (hs ++ hears s e)) (sym (calling_by s e.stream e.byte f))
 
 motor_from : (es : List Event) (s : State) (hs : List ℕ) → s.motor ≡ hearing_all s.calling resting hs → (run s es).motor ≡ hearing_all (run s es).calling resting (heard_from s hs es)
 motor_from [] s hs h = h
@@ -196,8 +196,8 @@ module _ (es : List Event) (coded : Coded es) where
   below : (others : List ℕ) (c : ℕ) → all_below 32 (others ++ c ∷ []) ≡ true → all_below 32 ((heard_since es ++ others) ++ c ∷ []) ≡ true
   below others c h = rw (append_assoc (heard_since es) others (c ∷ [])) (both_below (heard_since es) (others ++ c ∷ []) (heard_below es fresh_box [] coded refl) h)
 
-  pub fresh-stationed : Stationed es
-  fresh-stationed =
+  pub fresh_stationed : Stationed es
+  fresh_stationed =
       let g = sound_signals k (sound_parts (run fresh_box es) (sound_run fresh_box es fresh_sound)).held.calling in
       let hs : List ℕ → List ℕ = λ others. heard_since es ++ others in
       record {
@@ -209,9 +209,9 @@ module _ (es : List Event) (coded : Coded es) where
 -- What the host is told.
 
 module _ (s : State) where
-  told-heard : (ws : List Wanted) → told_of s ws ≡ changes s.calling s.connection.port s.motor (cond (listens s.calling s.connection) (codes_asked ws) [])
+  told_heard : (ws : List Wanted) → told_of s ws ≡ changes s.calling s.connection.port s.motor (cond (listens s.calling s.connection) (codes_asked ws) [])
   unfolding told_of
-  told-heard ws = go (listens s.calling s.connection)
+  told_heard ws = go (listens s.calling s.connection)
     where
       go : (b : Bool) → cond b (changes s.calling s.connection.port s.motor (codes_asked ws)) [] ≡ changes s.calling s.connection.port s.motor (cond b (codes_asked ws) [])
       go true = refl
@@ -224,20 +224,20 @@ module _ (s : State) where
       go true = refl
       go false = refl
 
-  hosted-told : (r : Reader) (out : Out) → talks out ≡ true
+  hosted_told : (r : Reader) (out : Out) → talks out ≡ true
       → (hosted (with_reader s r) s.reader.values out).host ≡ changes s.calling s.connection.port s.motor (cond (listens s.calling s.connection) (codes_asked (text s.settings (route s.connection Host) (text_of out))) [])
   unfolding told_of
-  hosted-told r Nothing h = rw (none s) none_told
-  hosted-told r (One b) h = told-heard (text s.settings (route s.connection Host) (b ∷ []))
-  hosted-told r (Two b) h = told-heard (text s.settings (route s.connection Host) (47 ∷ b ∷ []))
-  hosted-told r (Finished v count) h = absurd (false≢true h)
+  hosted_told r Nothing h = rw (none s) none_told
+  hosted_told r (One b) h = told_heard (text s.settings (route s.connection Host) (b ∷ []))
+  hosted_told r (Two b) h = told_heard (text s.settings (route s.connection Host) (47 ∷ b ∷ []))
+  hosted_told r (Finished v count) h = absurd (false≢true h)
 
-  tued-told : (k : Route) (c : ℕ) → (tued k s c).host ≡ changes s.calling s.connection.port s.motor (cond (listens s.calling s.connection) (codes_asked (carried_to k s c)) [])
+  tued_told : (k : Route) (c : ℕ) → (tued k s c).host ≡ changes s.calling s.connection.port s.motor (cond (listens s.calling s.connection) (codes_asked (carried_to k s c)) [])
   unfolding told_of
-  tued-told Dropped c = none_told
-  tued-told ToPrinter c = told-heard (carried_to ToPrinter s c)
-  tued-told ToHost c = none_told
-  tued-told ToTu c = none_told
+  tued_told Dropped c = none_told
+  tued_told ToPrinter c = told_heard (carried_to ToPrinter s c)
+  tued_told ToHost c = none_told
+  tued_told ToTu c = none_told
 
-  pub byte-tells : (b : ℕ) → Tells s b
-  byte-tells b = record { text = hosted-told (read s.reader b).reader (read s.reader b).out; code = tued-told (route s.connection Tu) b }
+  pub byte_tells : (b : ℕ) → Tells s b
+  byte_tells b = record { text = hosted_told (read s.reader b).reader (read s.reader b).out; code = tued_told (route s.connection Tu) b }

@@ -21,14 +21,14 @@ use Rattle.demands.specs.Names.{Host}
 use Rattle.demands.specs.Station.{heard_since, Coded, calling_after, Stationed}
 use Rattle.demands.specs.Traces.{mode1}
 use Rattle.demands.specs.StationExample.{by91, before, told}
-use Rattle.demands.proofs.Station.{fresh-stationed}
+use Rattle.demands.proofs.Station.{fresh_stationed}
 
 coded : (bs : List ℕ) → Coded (events Host bs)
 coded [] = tt
 coded (b ∷ bs) = (tt, coded bs)
 
 pub example : Stationed before
-example = fresh-stationed before (coded (mode1 ++ by91 ++ 66 ∷ []))
+example = fresh_stationed before (coded (mode1 ++ by91 ++ 66 ∷ []))
 
 -- `B` was heard since string 91 was written
 pub example_heard : heard_since before ≡ 25 ∷ []

@@ -44,25 +44,25 @@ own_append p [] ys = refl
 own_append p (x ∷ xs) ys = rw (own_append (hears p x.codes) xs ys, hears_append p x.codes (codes_in xs), append_assoc)
 
 module _ (o : Settings) where
-  endings-append : (xs ys : List Stretch) → Endings o xs → Endings o ys → Endings o (xs ++ ys)
-  endings-append [] ys h t = t
-  endings-append (x ∷ xs) ys h t = (h.0, endings-append xs ys h.1 t)
+  endings_append : (xs ys : List Stretch) → Endings o xs → Endings o ys → Endings o (xs ++ ys)
+  endings_append [] ys h t = t
+  endings_append (x ∷ xs) ys h t = (h.0, endings_append xs ys h.1 t)
 
-  printed-append : (p : Printer) (xs ys mine bs : List ℕ) → Printed o p xs mine → Printed o (hears p xs) ys bs → Printed o p (xs ++ ys) (mine ++ bs)
-  printed-append p xs ys mine bs h t = record {
+  printed_append : (p : Printer) (xs ys mine bs : List ℕ) → Printed o p xs mine → Printed o (hears p xs) ys bs → Printed o p (xs ++ ys) (mine ++ bs)
+  printed_append p xs ys mine bs h t = record {
     stretches = h.stretches ++ t.stretches;
     whole = rw (codes_append h.stretches t.stretches, ← h.whole, ← t.whole) refl;
-    endings = endings-append h.stretches t.stretches h.endings t.endings;
+    endings = endings_append h.stretches t.stretches h.endings t.endings;
     own = rw (own_append p h.stretches t.stretches, ← h.whole, h.own, t.own) refl;
   }
 
   -- nothing, and codes of its own
 
-  printed-none : (p : Printer) → Printed o p [] []
-  printed-none p = record { stretches = []; whole = refl; endings = tt; own = refl }
+  printed_none : (p : Printer) → Printed o p [] []
+  printed_none p = record { stretches = []; whole = refl; endings = tt; own = refl }
 
-  own-printed : (p : Printer) (cs mine : List ℕ) → characters_of (prints_all p cs) ≡ mine → Printed o p cs mine
-  own-printed p cs mine h = record {
+  own_printed : (p : Printer) (cs mine : List ℕ) → characters_of (prints_all p cs) ≡ mine → Printed o p cs mine
+  own_printed p cs mine h = record {
     stretches = record { ending = false; codes = cs } ∷ [];
     whole = sym (append-nil cs);
     endings = (λ e. absurd (false≢true e), tt);
@@ -87,8 +87,8 @@ module _ (o : Settings) where
     led (Is Letters) e = GoesOut.Alone h
     led (Is Figures) e = GoesOut.Alone h
 
-    code-goes : (n : Known) → GoesOut o (c ∷ cs) (ending_code o n c ++ sent)
-    code-goes n = go (kind_of c) refl
+    code_goes : (n : Known) → GoesOut o (c ∷ cs) (ending_code o n c ++ sent)
+    code_goes n = go (kind_of c) refl
       where
         go : (k : Kind) → kind_of c ≡ k → GoesOut o (c ∷ cs) (send_kind o n (on_record n) k c ++ sent)
         go Still e = GoesOut.Alone h
@@ -97,25 +97,25 @@ module _ (o : Settings) where
         go (Shift to) e = GoesOut.Alone h
         go (Char bell) e = led n (ap dependent e)
 
-  string-goes : (r : Record) (cs : List ℕ) → GoesOut o cs (ending_of o r cs)
-  string-goes r [] = GoesOut.End
-  string-goes r (c ∷ cs) =
+  string_goes : (r : Record) (cs : List ℕ) → GoesOut o cs (ending_of o r cs)
+  string_goes r [] = GoesOut.End
+  string_goes r (c ∷ cs) =
       let next = notes o r (ending_code o r.case c) in
-      code-goes c cs (ending_of o next cs) (string-goes next cs) r.case
+      code_goes c cs (ending_of o next cs) (string_goes next cs) r.case
 
-  is-on : (col : Column) → due o col ≡ true → endings o ≡ true
-  is-on column.Unknown h = absurd (false≢true h)
-  is-on (column.At n) h = (both (endings o) (leb (limit o) n) h).0
+  is_on : (col : Column) → due o col ≡ true → endings o ≡ true
+  is_on column.Unknown h = absurd (false≢true h)
+  is_on (column.At n) h = (both (endings o) (leb (limit o) n) h).0
 
   -- string 90 if it is due
-  ending-printed : (p : Printer) (r : Record) (b : Bool) → (b ≡ true → endings o ≡ true) → Printed o p (ending o r b) []
-  ending-printed p r false h = printed-none p
-  ending-printed p r true h =
+  ending_printed : (p : Printer) (r : Record) (b : Bool) → (b ≡ true → endings o ≡ true) → Printed o p (ending o r b) []
+  ending_printed p r false h = printed_none p
+  ending_printed p r true h =
       let string = until_zero (ending_codes o) in
       record {
         stretches = record { ending = true; codes = ending_of o r string } ∷ [];
         whole = sym (append-nil (ending_of o r string));
-        endings = (λ e. (h refl, string-goes r string), tt);
+        endings = (λ e. (h refl, string_goes r string), tt);
         own = refl;
       }
 
@@ -128,41 +128,41 @@ module _ (o : Settings) where
   characters (Shift to) m = refl
   characters (Char bell) m = refl
 
-  character-printed : (r : Record) (p : Printer) (w : Wanted) → Obeys o p (character o r w) → Agrees r p → Printed o p (character o r w) (code_in w.case w.code)
-  character-printed r p w obeys a =
+  character_printed : (r : Record) (p : Printer) (w : Wanted) → Obeys o p (character o r w) → Agrees r p → Printed o p (character o r w) (code_in w.case w.code)
+  character_printed r p w obeys a =
       let k = kind_of w.code in
       let e = ending_before o r w in
       let q = hears p e in
       let cs = send_as o (notes o r e).case w.case w.code in
       let b = agreement o r p e (obeys_append o p e cs obeys).0 a in
       let own = ap characters_of (code_prints o (notes o r e) q w.case w.code b) ∙ characters k (mark_as k w.case q.count w.code) in
-      printed-append p e cs [] (code_in w.case w.code)
-      (ending-printed p r (moves w.case k && due o r.column) (λ h. is-on r.column (both (moves w.case k) (due o r.column) h).1))
-      (own-printed q cs (code_in w.case w.code) own)
+      printed_append p e cs [] (code_in w.case w.code)
+      (ending_printed p r (moves w.case k && due o r.column) (λ h. is_on r.column (both (moves w.case k) (due o r.column) h).1))
+      (own_printed q cs (code_in w.case w.code) own)
 
   -- a shift may be dropped, and has nothing to print
-  item-printed : (s : Sender) (p : Printer) (w : Wanted) → Obeys o p (item o s w) → Agrees s.held p → Printed o p (item o s w) (code_in w.case w.code)
-  item-printed s p w obeys a = go (kind_of w.code) refl
+  item_printed : (s : Sender) (p : Printer) (w : Wanted) → Obeys o p (item o s w) → Agrees s.held p → Printed o p (item o s w) (code_in w.case w.code)
+  item_printed s p w obeys a = go (kind_of w.code) refl
     where
       sent : last_of (kind_of w.code) ≡ last.Other → Printed o p (item o s w) (code_in w.case w.code)
-      sent h = rw h (character-printed s.held p w (rw h at obeys) a)
+      sent h = rw h (character_printed s.held p w (rw h at obeys) a)
 
       go : (k : Kind) → kind_of w.code ≡ k → Printed o p (item o s w) (code_in w.case w.code)
       go Still e = sent (ap last_of e)
       go Space e = sent (ap last_of e)
       go Return e = sent (ap last_of e)
-      go (Shift to) e = item_cases o s w (λ cs. Obeys o p cs → Printed o p cs (code_in w.case w.code)) (λ h. rw e (printed-none p)) (λ h. character-printed s.held p w h a) obeys
+      go (Shift to) e = item_cases o s w (λ cs. Obeys o p cs → Printed o p cs (code_in w.case w.code)) (λ h. rw e (printed_none p)) (λ h. character_printed s.held p w h a) obeys
       go (Char bell) e = sent (ap last_of e)
 
   -- items print as they read
-  pub items-printed : (s : Sender) (p : Printer) (ws : List Wanted) → Obeys o p (items o s ws) → Agrees s.held p → Printed o p (items o s ws) (reads ws)
-  items-printed s p [] obeys a = printed-none p
-  items-printed s p (w ∷ ws) obeys a =
+  pub items_printed : (s : Sender) (p : Printer) (ws : List Wanted) → Obeys o p (items o s ws) → Agrees s.held p → Printed o p (items o s ws) (reads ws)
+  items_printed s p [] obeys a = printed_none p
+  items_printed s p (w ∷ ws) obeys a =
       let cs = item o s w in
       let rest = items o (after_item o s w) ws in
       let both = obeys_append o p cs rest obeys in
-      printed-append p cs rest (code_in w.case w.code) (reads ws) (item-printed s p w both.0 a)
-      (items-printed (after_item o s w) (hears p cs) ws both.1 (agreement o s.held p cs both.0 a))
+      printed_append p cs rest (code_in w.case w.code) (reads ws) (item_printed s p w both.0 a)
+      (items_printed (after_item o s w) (hears p cs) ws both.1 (agreement o s.held p cs both.0 a))
 
   -- With 49 off there is no ending, and all that is printed was asked for.
   module _ (off : endings o ≡ false) where
@@ -181,5 +181,5 @@ module _ (o : Settings) where
         go true e = absurd (false≢true (sym off ∙ (h.0 e).0))
         go false e = refl
 
-    pub plain-printed : (p : Printer) (cs mine : List ℕ) → Printed o p cs mine → characters_of (prints_all p cs) ≡ mine
-    plain-printed p cs mine h = ap (λ (u : List ℕ). characters_of (prints_all p u)) h.whole ∙ sym (all_own p h.stretches h.endings) ∙ h.own
+    pub plain_printed : (p : Printer) (cs mine : List ℕ) → Printed o p cs mine → characters_of (prints_all p cs) ≡ mine
+    plain_printed p cs mine h = ap (λ (u : List ℕ). characters_of (prints_all p u)) h.whole ∙ sym (all_own p h.stretches h.endings) ∙ h.own

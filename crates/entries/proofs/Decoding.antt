@@ -54,8 +54,8 @@ module _ (form : Form) (s old out : List ℕ) (i k : ℕ) (h : Decodes form s ol
   ended : decoded form (drop i s) (length old - k) ≡ [] → (k ≡ length (decoded form s (length old))) × (out ≡ fronted old (decoded form s (length old)))
   ended e = (let n = rw e at h.count in omega (arith, n), sym ((rw e at h.places) ∙ take-append-drop k out))
 
-  pub text-ends : length s ≤ i → (k ≡ length (decoded form s (length old))) × (out ≡ fronted old (decoded form s (length old)))
-  text-ends g = ended (rw (drop_of_length-le s {i = i} g) (empty form (length old - k)))
+  pub text_ends : length s ≤ i → (k ≡ length (decoded form s (length old))) × (out ≡ fronted old (decoded form s (length old)))
+  text_ends g = ended (rw (drop_of_length-le s {i = i} g) (empty form (length old - k)))
 
-  pub room-ends : length old ≤ k → (k ≡ length (decoded form s (length old))) × (out ≡ fronted old (decoded form s (length old)))
-  room-ends g = ended (let z : length old - k ≡ 0 = omega arith in rw z)
+  pub room_ends : length old ≤ k → (k ≡ length (decoded form s (length old))) × (out ≡ fronted old (decoded form s (length old)))
+  room_ends g = ended (let z : length old - k ≡ 0 = omega arith in rw z)

@@ -134,17 +134,17 @@ just_once n w (c ∷ cs) h =
 -- From a line on which the place is bare: it is struck over exactly if it is struck more than once.
 
 module _ (n : ℕ) (w : Watch) (l : Line) (cs : List ℕ) (h : n < length l.stand) (z : get_or l.stand n 0 ≡ 0) where
-  from-bare : get_or (line_of w l cs).stand n 0 ≡ stands_at n w 0 cs
-  from-bare = place_stands n w l cs h ∙ rw z
+  from_bare : get_or (line_of w l cs).stand n 0 ≡ stands_at n w 0 cs
+  from_bare = place_stands n w l cs h ∙ rw z
 
-  pub over-if : 2 ≤ struck_at n w cs → get_or (line_of w l cs).stand n 0 ≡ 3
-  over-if t = from-bare ∙ twice n w cs t
+  pub over_if : 2 ≤ struck_at n w cs → get_or (line_of w l cs).stand n 0 ≡ 3
+  over_if t = from_bare ∙ twice n w cs t
 
-  pub over-only : get_or (line_of w l cs).stand n 0 ≡ 3 → 2 ≤ struck_at n w cs
-  over-only o = go (eqb (struck_at n w cs) 0) (eqb (struck_at n w cs) 1) refl refl
+  pub over_only : get_or (line_of w l cs).stand n 0 ≡ 3 → 2 ≤ struck_at n w cs
+  over_only o = go (eqb (struck_at n w cs) 0) (eqb (struck_at n w cs) 1) refl refl
     where
       three : stands_at n w 0 cs ≡ 3
-      three = sym from-bare ∙ o
+      three = sym from_bare ∙ o
 
       go : (a b : Bool) → eqb (struck_at n w cs) 0 ≡ a → eqb (struck_at n w cs) 1 ≡ b → 2 ≤ struck_at n w cs
       go true b e f = let d : ◌≡◌ {A = ℕ} 0 3 = sym (unmarked n 0 w cs (eqb-true _ _ e)) ∙ three in absurd (omega arith)
@@ -176,4 +176,4 @@ struck_there {w} {p} {s} n (c ∷ cs) f = omega (arith, kind_hits n (kind_of c) 
 
 -- between two returns what lands before the stop is not struck over
 pub before_stop : {w : Watch} {p : Printer} {s : Case} (n : ℕ) (l : Line) (cs : List ℕ) → Fits w p s → NoReturn cs → n < w.stop → n < length l.stand → get_or l.stand n 0 ≡ 0 → get_or (line_of w l cs).stand n 0 ≡ 3 → ⊥
-before_stop {w} {p} {s} n l cs f r b h z o = omega (arith, over-only n w l cs h z o, struck_there n cs f, once w.stop n p cs f.short r b)
+before_stop {w} {p} {s} n l cs f r b h z o = omega (arith, over_only n w l cs h z o, struck_there n cs f, once w.stop n p cs f.short r b)

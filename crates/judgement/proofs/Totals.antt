@@ -110,14 +110,14 @@ stands_from : (n : ℕ) (w : Watch) (l : Line) (cs : List ℕ) → Clean l → n
 stands_from n w l cs k h = place_stands n w l cs (omega (arith, k.size)) ∙ rw (k.clear n h)
 
 module _ {w : Watch} {p : Printer} {s : Case} (l : Line) (cs : List ℕ) (f : Fits w p s) (b : w.stop < 256) (k : Clean l) where
-  abbrev standsAs : ℕ → ℕ → ℕ
-  standsAs v n = one (eqb (get_or (line_of w l cs).stand n 0) v)
+  abbrev stands_as : ℕ → ℕ → ℕ
+  stands_as v n = one (eqb (get_or (line_of w l cs).stand n 0) v)
 
-  count-right : (v : ℕ) → eqb 0 v ≡ false → eqb 3 v ≡ false → count_of v (line_of w l cs).stand ≡ reached (standsAs v) w cs
-  count-right v x y =
+  count_right : (v : ℕ) → eqb 0 v ≡ false → eqb 3 v ≡ false → count_of v (line_of w l cs).stand ≡ reached (stands_as v) w cs
+  count_right v x y =
       let n : length (line_of w l cs).stand ≡ 256 = line_length w l cs ∙ k.size in
-      let same = sum_same 256 (standsAs v) (λ n. struck_at n w cs * standsAs v n) (λ n h. rw (stands_from n w l cs k h) (stood n w cs v x y)) in
-      (rw n at (count_sum v (line_of w l cs).stand)) ∙ same ∙ sym (reached_sum (standsAs v) cs f b)
+      let same = sum_same 256 (stands_as v) (λ n. struck_at n w cs * stands_as v n) (λ n h. rw (stands_from n w l cs k h) (stood n w cs v x y)) in
+      (rw n at (count_sum v (line_of w l cs).stand)) ∙ same ∙ sym (reached_sum (stands_as v) cs f b)
 
 -- A code's judgement.
 
@@ -243,12 +243,12 @@ reached_same F g h w (c ∷ cs) a e = omega (arith, alike (lands w (kind_of c)) 
 
 reached_none : (w : Watch) (cs : List ℕ) → reached (λ n. 0) w cs ≡ 0
 reached_none w [] = refl
-reached_none w (c ∷ cs) = omega (arith, zero-there (lands w (kind_of c)), reached_none (watch w c) cs)
+reached_none w (c ∷ cs) = omega (arith, zero_there (lands w (kind_of c)), reached_none (watch w c) cs)
   where
-    zero-there : (x : Landing) → weigh (λ n. 0) x ≡ 0
-    zero-there Nowhere = refl
-    zero-there (There m) = refl
-    zero-there (Somewhere m) = refl
+    zero_there : (x : Landing) → weigh (λ n. 0) x ≡ 0
+    zero_there Nowhere = refl
+    zero_there (There m) = refl
+    zero_there (Somewhere m) = refl
 
 drifting_none : (w : Watch) (cs : List ℕ) → drifting false w cs ≡ 0
 drifting_none w [] = refl
@@ -355,60 +355,60 @@ module _ {w : Watch} {p : Printer} {s : Case} (l : Line) (cs : List ℕ) (f : Fi
   all : AllMet F w cs
   all = all_met L (λ n. 0) cs f b leave
 
-  judged-as : (v : ℕ) → eqb 0 v ≡ false → judged v w L cs ≡ reached (λ n. one (eqb (standing L.strays (F n)) v)) w cs + drifting (eqb 4 v) w cs
-  judged-as v z = judged_by v L (λ n. 0) cs z f b leave
+  judged_as : (v : ℕ) → eqb 0 v ≡ false → judged v w L cs ≡ reached (λ n. one (eqb (standing L.strays (F n)) v)) w cs + drifting (eqb 4 v) w cs
+  judged_as v z = judged_by v L (λ n. 0) cs z f b leave
 
   singles : alone L ≡ reached (λ n. held (F n)) w cs
   singles =
-      let c1 = count-right l cs f b k 1 refl refl in
-      let c2 = count-right l cs f b k 2 refl refl in
-      let c4 = count-right l cs f b k 4 refl refl in
+      let c1 = count_right l cs f b k 1 refl refl in
+      let c2 = count_right l cs f b k 2 refl refl in
+      let c4 = count_right l cs f b k 4 refl refl in
       let a = reached_add (λ n. one (eqb (F n) 1)) (λ n. one (eqb (F n) 2)) w cs in
       let d = reached_add (λ n. one (eqb (F n) 1) + one (eqb (F n) 2)) (λ n. one (eqb (F n) 4)) w cs in
       omega (arith, c1, c2, c4, a, d)
 
-  over-right : L.landed - alone L ≡ judged 3 w L cs
-  over-right =
+  over_right : L.landed - alone L ≡ judged 3 w L cs
+  over_right =
       let t = landed_right w l cs (omega (arith, k.landed)) in
       let e = reached_same F (λ n. 1) (λ n. held (F n) + one (eqb (F n) 3)) w cs all (λ m h. each (F m) h) in
       let a = reached_add (λ n. held (F n)) (λ n. one (eqb (F n) 3)) w cs in
       let o = reached_same F (λ n. one (eqb (standing L.strays (F n)) 3)) (λ n. one (eqb (F n) 3)) w cs all (λ m h. over_alike L.strays (F m) h) in
-      omega (arith, t, k.landed, e, a, o, singles, judged-as 3 refl, drifting_none w cs)
+      omega (arith, t, k.landed, e, a, o, singles, judged_as 3 refl, drifting_none w cs)
 
   strayed : L.strays ≡ drifting true w cs
   strayed = omega (arith, strays_right w l cs (omega (arith, k.strays)), k.strays)
 
   -- no stray: a place that stands alone is one code judged so
-  plain-right : (v : ℕ) → eqb 0 v ≡ false → eqb 3 v ≡ false → eqb L.strays 0 ≡ true → count_of v L.stand ≡ judged v w L cs
-  plain-right v z y e =
+  plain_right : (v : ℕ) → eqb 0 v ≡ false → eqb 3 v ≡ false → eqb L.strays 0 ≡ true → count_of v L.stand ≡ judged v w L cs
+  plain_right v z y e =
       let o = reached_same F (λ n. one (eqb (standing L.strays (F n)) v)) (λ n. one (eqb (F n) v)) w cs all (λ m h. rw (plain L.strays (F m) e h)) in
-      omega (arith, count-right l cs f b k v z y, o, judged-as v z, no-drift (eqb 4 v))
+      omega (arith, count_right l cs f b k v z y, o, judged_as v z, no_drift (eqb 4 v))
     where
-      no-drift : (q : Bool) → drifting q w cs ≡ 0
-      no-drift true = sym strayed ∙ eqb-true _ _ e
-      no-drift false = drifting_none w cs
+      no_drift : (q : Bool) → drifting q w cs ≡ 0
+      no_drift true = sym strayed ∙ eqb-true _ _ e
+      no_drift false = drifting_none w cs
 
   -- a stray: nothing is sure to be kept or turned
   none_right : (v : ℕ) → eqb 0 v ≡ false → eqb 3 v ≡ false → eqb 4 v ≡ false → eqb L.strays 0 ≡ false → 0 ≡ judged v w L cs
   none_right v z y x e =
       let o = reached_same F (λ n. one (eqb (standing L.strays (F n)) v)) (λ n. 0) w cs all (λ m h. hidden L.strays (F m) v e y x h) in
       let d : drifting (eqb 4 v) w cs ≡ 0 = rw x (drifting_none w cs) in
-      omega (arith, o, reached_none w cs, judged-as v z, d)
+      omega (arith, o, reached_none w cs, judged_as v z, d)
 
-  unknown-right : eqb L.strays 0 ≡ false → plus (alone L) L.strays ≡ judged 4 w L cs
-  unknown-right e =
+  unknown_right : eqb L.strays 0 ≡ false → plus (alone L) L.strays ≡ judged 4 w L cs
+  unknown_right e =
       let o = reached_same F (λ n. one (eqb (standing L.strays (F n)) 4)) (λ n. held (F n)) w cs all (λ m h. clouded L.strays (F m) e h) in
       let h = reached_same F (λ n. 1) (λ n. held (F n) + one (eqb (F n) 3)) w cs all (λ m h. each (F m) h) in
       let a = reached_add (λ n. held (F n)) (λ n. one (eqb (F n) 3)) w cs in
-      omega (arith, o, h, a, singles, strayed, judged-as 4 refl, parts w cs)
+      omega (arith, o, h, a, singles, strayed, judged_as 4 refl, parts w cs)
 
   -- the tally of a line counts the judgements of its codes
-  pub tally-right : tally_of L ≡ counted w L cs
-  tally-right = go (eqb L.strays 0) refl
+  pub tally_right : tally_of L ≡ counted w L cs
+  tally_right = go (eqb L.strays 0) refl
     where
       go : (q : Bool) → eqb L.strays 0 ≡ q → tally_by q L ≡ counted w L cs
-      go true e = rw (over-right, plain-right 1 refl refl e, plain-right 2 refl refl e, plain-right 4 refl refl e)
-      go false e = rw (over-right, unknown-right e, ← none_right 1 refl refl refl e, ← none_right 2 refl refl refl e)
+      go true e = rw (over_right, plain_right 1 refl refl e, plain_right 2 refl refl e, plain_right 4 refl refl e)
+      go false e = rw (over_right, unknown_right e, ← none_right 1 refl refl refl e, ← none_right 2 refl refl refl e)
 
 -- The page.
 
@@ -419,7 +419,7 @@ bare_clean = record { size = refl; clear = λ n h. get_or-replicate 256 n 0 0 h;
 -- codes that do not feed stay on the line
 pub line_taken : (s : Page) (cs : List ℕ) → NoFeed cs → page_after_all s cs ≡ record { watch = watches s.watch cs; line = line_of s.watch s.line cs; total = s.total }
 line_taken s [] h = refl
-line_taken s (c ∷ cs) h = rw (one-taken s c h.0) (line_taken (on_line s c) cs h.1)
+line_taken s (c ∷ cs) h = rw (one_taken s c h.0) (line_taken (on_line s c) cs h.1)
   where
-    one-taken : (s : Page) (c : ℕ) → feeds c ≡ false → page_after s c ≡ on_line s c
-    one-taken s c e = rw e
+    one_taken : (s : Page) (c : ℕ) → feeds c ≡ false → page_after s c ≡ on_line s c
+    one_taken s c e = rw e

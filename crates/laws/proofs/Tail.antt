@@ -39,19 +39,19 @@ module _ (old : List ℕ) (at : ℕ) (new : List ℕ) (fits : at + length new �
   tail = rw (← append_assoc) (drop_at (take at old ++ new) _ _ front)
 
   -- writing on from where the writing ended
-  pub written-more : (more : List ℕ) → written (written old at new) (at + length new) more ≡ written old at (new ++ more)
-  written-more more =
+  pub written_more : (more : List ℕ) → written (written old at new) (at + length new) more ≡ written old at (new ++ more)
+  written_more more =
       let t : drop (at + length new + length more) (written old at new) ≡ drop (at + length new + length more) old = rw (← drop-drop (length more) (at + length new) (written old at new), tail, drop-drop) in
       rw (head, t) (simp (length-append, append_assoc, add_assoc))
 
-  pub length-written : length (written old at new) ≡ length old
-  length-written =
+  pub length_written : length (written old at new) ≡ length old
+  length_written =
       let l : length (take at old) ≡ at = length-take-le at old (omega arith) in
       simp (length-append, l, length-drop) (omega arith)
 
 -- what was written at the front is written on
 pub fronted_more : (old p more : List ℕ) → length p ≤ length old → written (fronted old p) (length p) more ≡ fronted old (p ++ more)
-fronted_more old p more h = simp zero-add at (written-more old 0 p (rw zero-add h) more)
+fronted_more old p more h = simp zero-add at (written_more old 0 p (rw zero-add h) more)
 
 pub length_fronted : (old p : List ℕ) → length p ≤ length old → length (fronted old p) ≡ length old
 length_fronted old p h = rw (length-append, length-drop) (omega arith)

@@ -31,29 +31,29 @@ module _ (t : Stream) (s : State) (x : ℕ) (xs : List ℕ) (a b : ℕ) where
   abbrev free₂ : ℕ
   free₂ = b - length (second_of t (step t s x))
 
-  fits-cons : (n : ℕ) → fits_at t s (x ∷ xs) a b (suc n) ≡ fits_at t after xs free₁ free₂ n
-  fits-cons n = rw (free a (first_of t (step t s x)) (firsts_of t after (take n xs)), free b (second_of t (step t s x)) (seconds_of t after (take n xs)))
+  fits_cons : (n : ℕ) → fits_at t s (x ∷ xs) a b (suc n) ≡ fits_at t after xs free₁ free₂ n
+  fits_cons n = rw (free a (first_of t (step t s x)) (firsts_of t after (take n xs)), free b (second_of t (step t s x)) (seconds_of t after (take n xs)))
 
-  when-cons : (n : ℕ) (w : ℕ) → from_sound w ≡ true → When t after xs free₁ free₂ n w → When t s (x ∷ xs) a b (suc n) w
-  when-cons n zero h p = ap suc p
-  when-cons n (suc zero) h p = (omega (arith, p.0), (p.1.0, fits-cons n ∙ p.1.1))
-  when-cons n (suc (suc zero)) h p = (omega (arith, p.0), p.1)
-  when-cons n (suc (suc (suc zero))) h p = absurd (true≢false (sym h))
-  when-cons n (suc (suc (suc (suc w)))) h p = absurd p
+  when_cons : (n : ℕ) (w : ℕ) → from_sound w ≡ true → When t after xs free₁ free₂ n w → When t s (x ∷ xs) a b (suc n) w
+  when_cons n zero h p = ap suc p
+  when_cons n (suc zero) h p = (omega (arith, p.0), (p.1.0, fits_cons n ∙ p.1.1))
+  when_cons n (suc (suc zero)) h p = (omega (arith, p.0), p.1)
+  when_cons n (suc (suc (suc zero))) h p = absurd (true≢false (sym h))
+  when_cons n (suc (suc (suc (suc w)))) h p = absurd p
 
-  when-tail : (n : ℕ) (w : ℕ) → When t s (x ∷ xs) a b (suc n) w → When t after xs free₁ free₂ n w
-  when-tail n zero p = omega (arith, p)
-  when-tail n (suc zero) p = (le_of_suc-le-suc p.0, (p.1.0, sym (fits-cons n) ∙ p.1.1))
-  when-tail n (suc (suc zero)) p = (le_of_suc-le-suc p.0, p.1)
-  when-tail n (suc (suc (suc zero))) p = absurd (omega (arith, p))
-  when-tail n (suc (suc (suc (suc w)))) p = absurd p
+  when_tail : (n : ℕ) (w : ℕ) → When t s (x ∷ xs) a b (suc n) w → When t after xs free₁ free₂ n w
+  when_tail n zero p = omega (arith, p)
+  when_tail n (suc zero) p = (le_of_suc-le-suc p.0, (p.1.0, sym (fits_cons n) ∙ p.1.1))
+  when_tail n (suc (suc zero)) p = (le_of_suc-le-suc p.0, p.1)
+  when_tail n (suc (suc (suc zero))) p = absurd (omega (arith, p))
+  when_tail n (suc (suc (suc (suc w)))) p = absurd p
 
-  before-cons : (n : ℕ) → refuses t s x ≡ false → fits t (step t s x) a b ≡ true → ((i : ℕ) → i < n → Takes t after xs free₁ free₂ i) → (i : ℕ) → i < suc n → Takes t s (x ∷ xs) a b i
-  before-cons n r f h zero l = record { accepts = r; fits = rw (sub-zero, sub-zero) f }
-  before-cons n r f h (suc i) l = let p = h i (le_of_suc-le-suc l) in record { accepts = p.accepts; fits = fits-cons i ∙ p.fits }
+  before_cons : (n : ℕ) → refuses t s x ≡ false → fits t (step t s x) a b ≡ true → ((i : ℕ) → i < n → Takes t after xs free₁ free₂ i) → (i : ℕ) → i < suc n → Takes t s (x ∷ xs) a b i
+  before_cons n r f h zero l = record { accepts = r; fits = rw (sub-zero, sub-zero) f }
+  before_cons n r f h (suc i) l = let p = h i (le_of_suc-le-suc l) in record { accepts = p.accepts; fits = fits_cons i ∙ p.fits }
 
-  before-tail : (n : ℕ) → ((i : ℕ) → i < suc n → Takes t s (x ∷ xs) a b i) → (i : ℕ) → i < n → Takes t after xs free₁ free₂ i
-  before-tail n h i l = let p = h (suc i) (omega (arith, l)) in record { accepts = p.accepts; fits = sym (fits-cons i) ∙ p.fits }
+  before_tail : (n : ℕ) → ((i : ℕ) → i < suc n → Takes t s (x ∷ xs) a b i) → (i : ℕ) → i < n → Takes t after xs free₁ free₂ i
+  before_tail n h i l = let p = h (suc i) (omega (arith, l)) in record { accepts = p.accepts; fits = sym (fits_cons i) ∙ p.fits }
 
 -- Where taking stops.
 record Stops (t : Stream) (s : State) (xs : List ℕ) (a b : ℕ) (d : Done) : Type 0 where
@@ -77,8 +77,8 @@ stops t s (x ∷ xs) a b = go (refuses t s x) (fits t (step t s x) a b) refl ref
     go false false e i p = record { state = refl; before = none t s (x ∷ xs) a b; next = (omega arith, (e, rw (sub-zero, sub-zero) i)) }
     go false true e i p = record {
       state = p.state;
-      before = before-cons t s x xs a b rest.taken e i p.before;
-      next = when-cons t s x xs a b rest.taken rest.answer p.state p.next;
+      before = before_cons t s x xs a b rest.taken e i p.before;
+      next = when_cons t s x xs a b rest.taken rest.answer p.state p.next;
     }
 
 -- a call stands under its answer's condition
@@ -94,8 +94,8 @@ ends t s xs a b = go (sound s) refl (stops t s xs a b)
 
 -- a byte taken or not
 module _ (t : Stream) (s : State) (x : ℕ) (xs : List ℕ) (a b : ℕ) where
-  takes-on : Takes t s (x ∷ xs) a b 0 → taking t s (x ∷ xs) a b ≡ onward t (step t s x) (taking t (step t s x).state xs (free₁ t s x xs a b) (free₂ t s x xs a b))
-  takes-on p =
+  takes_on : Takes t s (x ∷ xs) a b 0 → taking t s (x ∷ xs) a b ≡ onward t (step t s x) (taking t (step t s x).state xs (free₁ t s x xs a b) (free₂ t s x xs a b))
+  takes_on p =
       let f : fits t (step t s x) a b ≡ true = rw (sub-zero, sub-zero) at p.fits in
       rw (p.accepts, f)
 
@@ -125,8 +125,8 @@ only_taking : (t : Stream) (s : State) (xs : List ℕ) (a b n : ℕ) (w : ℕ) �
 only_taking t s [] a b n w h before p = only_empty t s a b n w h p
 only_taking t s (x ∷ xs) a b zero w h before p = only_first t s x xs a b w h p
 only_taking t s (x ∷ xs) a b (suc n) w h before p =
-    takes-on t s x xs a b (before 0 (omega arith))
-    ∙ ap (onward t (step t s x)) (only_taking t (step t s x).state xs (free₁ t s x xs a b) (free₂ t s x xs a b) n w h (before-tail t s x xs a b n before) (when-tail t s x xs a b n w p))
+    takes_on t s x xs a b (before 0 (omega arith))
+    ∙ ap (onward t (step t s x)) (only_taking t (step t s x).state xs (free₁ t s x xs a b) (free₂ t s x xs a b) n w h (before_tail t s x xs a b n before) (when_tail t s x xs a b n w p))
 
 only_sound : (t : Stream) (s : State) (xs : List ℕ) (a b : ℕ) (w : ℕ) (n : ℕ) → from_sound w ≡ true → Ends t s xs a b w n → call t s xs a b ≡ outcome t s xs w n
 only_sound t s xs a b w n h p = rw (p.state, h) (only_taking t s xs a b n w h p.before p.next)

@@ -25,11 +25,11 @@ use Rattle.linebox.specs.Call.{first_of, second_of, refuses, fits, Done, before,
 use Rattle.linebox.specs.Plain.{is_text}
 use Rattle.step.specs.Route.{route, is_printer}
 use Rattle.step.specs.Hear.{listens}
-use Rattle.step.proofs.Hearing.{deaf-motor, deaf-told}
+use Rattle.step.proofs.Hearing.{deaf_motor, deaf_told}
 use Rattle.sender.proofs.Sending.{run_within, run_none}
 use Rattle.linebox.specs.Call.{Runs}
 use Rattle.step.proofs.Stays.{sound_parts, parts_sound}
-use Rattle.linebox.proofs.Plainly.{Plain, most-fits, plainly}
+use Rattle.linebox.proofs.Plainly.{Plain, most_fits, plainly}
 
 -- how text asks, and how codes do
 abbrev as_text : Asks → Bool
@@ -88,7 +88,7 @@ plain_text s m deaf x Text b h e =
     let u = text_step (texting s x) b m refl e in
     let y = texting s x in
     let ws = wanted_by s.settings Text b in
-    record { is_taken = refl; state = rw (u, deaf-motor y ws deaf); first = rw u; second = rw u (deaf-told y ws deaf) }
+    record { is_taken = refl; state = rw (u, deaf_motor y ws deaf); first = rw u; second = rw u (deaf_told y ws deaf) }
 plain_text s m deaf x (Codes case) b h e = absurd (false≢true h)
 
 -- the first byte of a run is read as if no field had ever been
@@ -103,7 +103,7 @@ first_same s (b ∷ xs) room more m deaf h n = go (eqb b 47) refl (leb most room
     go false e false f n = absurd (n (rw (e, f)))
     go false e true f n =
         let p = plain_text s m deaf s.sender Text b refl e in
-        let fits = most-fits Host s.settings (λ y z. texting s y) s.sender Text b room more p f in
+        let fits = most_fits Host s.settings (λ y z. texting s y) s.sender Text b room more p f in
         let u : host_step s b ≡ host_step (texting s s.sender) b = text_step s b m h e ∙ sym (text_step (texting s s.sender) b m refl e) in
         rw (u, fits)
 
@@ -120,8 +120,8 @@ module _ (s : State) (ok : sound s ≡ true) (m : is_printer (route s.connection
       rw same (unmoved Host s input old ok)
 
   -- some were
-  pub text-runs : (x.taken ≡ 0 → ⊥) → Runs Host s input old now (record { state = texting s x.sender; taken = x.taken; count = x.count })
-  text-runs z =
+  pub text_runs : (x.taken ≡ 0 → ⊥) → Runs Host s input old now (record { state = texting s x.sender; taken = x.taken; count = x.count })
+  text_runs z =
       let n : d.taken ≡ 0 → ⊥ = λ e. z (ap (λ (u : Sent). u.taken) f.gives ∙ e) in
       rw f.gives (record {
         new = d.codes;
@@ -152,7 +152,7 @@ plain_codes s m deaf x (Codes case) b h e =
     let u = open_codes (route s.connection Tu) (coding s x (Codes case)) b m in
     let y = with_incoming (coding s x (Codes case)) (read_case s.settings case (kind_of b)) in
     let ws = wanted case b ∷ [] in
-    record { is_taken = e; state = rw (u, deaf-motor y ws deaf); first = rw u; second = rw u (deaf-told y ws deaf) }
+    record { is_taken = e; state = rw (u, deaf_motor y ws deaf); first = rw u; second = rw u (deaf_told y ws deaf) }
 
 coding_sound : (s : State) (x : Sender) (a : Asks) → sound s ≡ true → sound (coding s x a) ≡ true
 coding_sound s x a ok =

@@ -99,8 +99,8 @@ module _ (t : Stream) (start : State) (input old₁ old₂ : List ℕ) where
       }
 
   -- why it stops: no byte is left, the next is no code, or its output does not fit
-  pub all-taken : (s : State) (n a b : ℕ) → length input ≤ n → taking t s (drop n input) a b ≡ stopped 0 s
-  all-taken s n a b h = rw (drop_of_length-le input h)
+  pub all_taken : (s : State) (n a b : ℕ) → length input ≤ n → taking t s (drop n input) a b ≡ stopped 0 s
+  all_taken s n a b h = rw (drop_of_length-le input h)
 
   module _ (s : State) (n : ℕ) (lt : n < length input) where
     abbrev next : Step
@@ -156,10 +156,10 @@ module _ (t : Stream) (start : State) (input old₁ old₂ : List ℕ) where
         })
 
     -- what is written then has room
-    pub turn-rooms : (now₁ now₂ ys₁ ys₂ : List ℕ) (k₁ k₂ : ℕ) (x : Taken) → Reached t start input old₁ old₂ s n now₁ now₂ k₁ k₂ → refuses t s (get_or input n 0) ≡ false
+    pub turn_rooms : (now₁ now₂ ys₁ ys₂ : List ℕ) (k₁ k₂ : ℕ) (x : Taken) → Reached t start input old₁ old₂ s n now₁ now₂ k₁ k₂ → refuses t s (get_or input n 0) ≡ false
         → Offers t next (mid_of k₁ (length now₁ - k₁) now₁) (mid_of k₂ (length now₂ - k₂) now₂) ys₁ ys₂ x → x.fits ≡ true
         → (k₁ + x.first ≤ length old₁) × (k₂ + x.second ≤ length old₂)
-    turn-rooms now₁ now₂ ys₁ ys₂ k₁ k₂ x r e o fit = let u = turn now₁ now₂ ys₁ ys₂ k₁ k₂ x r e o fit in (u.one.room, u.two.room)
+    turn_rooms now₁ now₂ ys₁ ys₂ k₁ k₂ x r e o fit = let u = turn now₁ now₂ ys₁ ys₂ k₁ k₂ x r e o fit in (u.one.room, u.two.room)
 
 -- a run of bytes that the command reader keeps more
 pub kept_on : (start : State) (input old₁ old₂ : List ℕ) (s : State) (n : ℕ) (now₁ now₂ : List ℕ) (k₁ k₂ : ℕ) → Reached Host start input old₁ old₂ s n now₁ now₂ k₁ k₂

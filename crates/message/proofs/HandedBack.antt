@@ -91,9 +91,9 @@ earliest_bytes s start len e = rw (e.after_crlf, ← drop-drop 2 e.place s, e.lo
 
 -- the maker's message, among any bytes
 module _ (p q : List ℕ) (id : ℕ) (values : List ℕ) (none : NoMessage (p ++ crlf)) (bytes : AllBytes (id ∷ values)) (few : length values ≤ 255) where
-  pub located-message : located (p ++ (message id values ++ q)) ≡ record { start = length p + 2; len = length (body (id ∷ length values ∷ values)) }
+  pub located_message : located (p ++ (message id values ++ q)) ≡ record { start = length p + 2; len = length (body (id ∷ length values ∷ values)) }
   unfolding located
-  located-message = passes (id ∷ length values ∷ values) q (bytes.0, (few, bytes.1)) refl 0 p none ∙ rw zero-add
+  located_message = passes (id ∷ length values ∷ values) q (bytes.0, (few, bytes.1)) refl 0 p none ∙ rw zero-add
 
-  pub found-message : found (p ++ (message id values ++ q)) ≡ body (id ∷ length values ∷ values)
-  found-message = rw (located-message, drop-append-add p (message id values ++ q) 2) (body_front (id ∷ length values ∷ values) q)
+  pub found_message : found (p ++ (message id values ++ q)) ≡ body (id ∷ length values ∷ values)
+  found_message = rw (located_message, drop-append-add p (message id values ++ q) 2) (body_front (id ∷ length values ∷ values) q)

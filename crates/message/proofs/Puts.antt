@@ -7,7 +7,7 @@ use native.Mathlib.Nat.{add-zero, add_assoc}
 use lib.ListN.{length, length-append}
 use lib.Seq.{paste, take-length}
 use Rattle.laws.specs.Written.{written}
-use Rattle.laws.proofs.Tail.{written_none, written-more}
+use Rattle.laws.proofs.Tail.{written_none, written_more}
 use Rattle.message.specs.Made.{Put}
 
 -- nothing is put where the buffer is as it was
@@ -19,7 +19,7 @@ pub put_next : (old new out more out' : List ℕ) (at k k' : ℕ) → at + lengt
 put_next old new out more out' at k k' fits p q =
     record {
       place = rw (q.place, p.place, length-append, add_assoc);
-      contents = q.contents ∙ rw (p.contents, p.place) (written-more old at new fits more);
+      contents = q.contents ∙ rw (p.contents, p.place) (written_more old at new fits more);
     }
 
 -- a whole word copied is the word written

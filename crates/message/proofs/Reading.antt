@@ -21,7 +21,7 @@ use Rattle.message.specs.Find.{AllBytes, Counted}
 use Rattle.message.specs.Scan.{ended, whole, is_digit, more, scan, complete}
 use Rattle.message.proofs.Digits.{one_digit}
 use Rattle.message.proofs.Sizes.{numbers_append}
-use Rattle.message.proofs.Turns.{digit_bounds, more-fits, in-digit}
+use Rattle.message.proofs.Turns.{digit_bounds, more_fits, in_digit}
 
 -- the bytes of w, from a state on
 abbrev pub run : Scan → List ℕ → Scan
@@ -94,24 +94,24 @@ not_comma : (d : ℕ) → digit d ≡ 44 → ⊥
 not_comma d e = omega arith
 
 module _ (p : Phase) where
-  first-digit : (d : ℕ) → d < 10 → scan (Comma p) (digit d) ≡ In p d
-  first-digit d h = rw (is_digit_law d h, ← value d)
+  first_digit : (d : ℕ) → d < 10 → scan (Comma p) (digit d) ≡ In p d
+  first_digit d h = rw (is_digit_law d h, ← value d)
 
-  next-digit : (v d : ℕ) → (v ≡ 0 → ⊥) → d < 10 → v * 10 + d ≤ 255 → scan (In p v) (digit d) ≡ In p (v * 10 + d)
-  next-digit v d z l h = sym (in-digit p v (digit d) _ (not_comma d) (is_digit_law d l) (more-fits p v (digit d) v d z refl (value d) h))
+  next_digit : (v d : ℕ) → (v ≡ 0 → ⊥) → d < 10 → v * 10 + d ≤ 255 → scan (In p v) (digit d) ≡ In p (v * 10 + d)
+  next_digit v d z l h = sym (in_digit p v (digit d) _ (not_comma d) (is_digit_law d l) (more_fits p v (digit d) v d z refl (value d) h))
 
   number : (k n : ℕ) → n < k → n ≤ 255 → run (Comma p) (digits n) ≡ In p n
   number zero n h m = absurd (not-suc-le-zero h)
   number (suc k) n h m = go (ltb n 10) refl (number k (n / 10))
     where
       go : (b : Bool) → ltb n 10 ≡ b → (n / 10 < k → n / 10 ≤ 255 → run (Comma p) (digits (n / 10)) ≡ In p (n / 10)) → run (Comma p) (digits n) ≡ In p n
-      go true e rest = let l : n < 10 = ltb-true n 10 e in rw (one_digit n l) (first-digit n l)
+      go true e rest = let l : n < 10 = ltb-true n 10 e in rw (one_digit n l) (first_digit n l)
       go false e rest =
           let l : 10 ≤ n = ltb-false n 10 e in
           let j : n / 10 * 10 + n % 10 ≡ n = omega arith in
           let z : n / 10 ≡ 0 → ⊥ = λ y. omega arith in
           rw (digits_split n l m, run_append, rest (omega arith) (omega arith))
-          (next-digit (n / 10) (n % 10) z (omega arith) (omega arith) ∙ rw j)
+          (next_digit (n / 10) (n % 10) z (omega arith) (omega arith) ∙ rw j)
 
   pub number_read : (n : ℕ) → n ≤ 255 → run (Comma p) (digits n) ≡ In p n
   number_read n h = number (suc n) n (omega arith) h

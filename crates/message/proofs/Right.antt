@@ -146,20 +146,20 @@ front_room s k e =
     omega (arith, f.long, framed_length f.ns, simp length-append at (ap length f.spelt))
 
 module _ (s : List ℕ) (i : ℕ) where
-  at-cons : i < length s → located_from i (drop i s) ≡ placed i (message_at (drop i s)) (located_from (suc i) (drop (suc i) s))
-  at-cons h = rw (drop-cons s i 0 h)
+  at_cons : i < length s → located_from i (drop i s) ≡ placed i (message_at (drop i s)) (located_from (suc i) (drop (suc i) s))
+  at_cons h = rw (drop-cons s i 0 h)
 
-  pub locate-here : i < length s → (k : ℕ) → message_at (drop i s) ≡ Bytes k → located_from i (drop i s) ≡ record { start = i + 2; len = 4 + k }
-  locate-here h k e = at-cons h ∙ ap (λ (n : Numbers). placed i n (located_from (suc i) (drop (suc i) s))) e
+  pub locate_here : i < length s → (k : ℕ) → message_at (drop i s) ≡ Bytes k → located_from i (drop i s) ≡ record { start = i + 2; len = 4 + k }
+  locate_here h k e = at_cons h ∙ ap (λ (n : Numbers). placed i n (located_from (suc i) (drop (suc i) s))) e
 
-  pub locate-next : i < length s → message_at (drop i s) ≡ Nothing → located_from i (drop i s) ≡ located_from (i + 1) (drop (i + 1) s)
-  locate-next h e = at-cons h ∙ ap (λ (n : Numbers). placed i n (located_from (suc i) (drop (suc i) s))) e ∙ rw add-one
+  pub locate_next : i < length s → message_at (drop i s) ≡ Nothing → located_from i (drop i s) ≡ located_from (i + 1) (drop (i + 1) s)
+  locate_next h e = at_cons h ∙ ap (λ (n : Numbers). placed i n (located_from (suc i) (drop (suc i) s))) e ∙ rw add-one
 
-  pub locate-over : length s ≤ i → located_from i (drop i s) ≡ record { start = 0; len = 0 }
-  locate-over h = rw (drop_of_length-le s h)
+  pub locate_over : length s ≤ i → located_from i (drop i s) ≡ record { start = 0; len = 0 }
+  locate_over h = rw (drop_of_length-le s h)
 
-  pub room-here : i < length s → (k : ℕ) → message_at (drop i s) ≡ Bytes k → i + (8 + k) ≤ length s
-  room-here h k e = omega (arith, simp length-drop at (front_room (drop i s) k e))
+  pub room_here : i < length s → (k : ℕ) → message_at (drop i s) ≡ Bytes k → i + (8 + k) ≤ length s
+  room_here h k e = omega (arith, simp length-drop at (front_room (drop i s) k e))
 
 pub locate_start : (s : List ℕ) → located s ≡ located_from 0 (drop 0 s)
 unfolding located

@@ -11,7 +11,7 @@ use lib.Dec.{eqb, ltb, leb, lit≤}
 use lib.ListN.{length, take, drop, replicate, length-drop, length-append, length-replicate, take-append-drop}
 use Rattle.laws.proofs.Both.{both}
 use Rattle.word.specs.Word.{digits_by, all_below, unpacked, packed}
-use Rattle.word.proofs.Words.{digits-length, digits-below, digits_number, fewer, number_digits, packed_codes}
+use Rattle.word.proofs.Words.{digits_length, digits_below, digits_number, fewer, number_digits, packed_codes}
 use Rattle.settings.specs.Table.{all_zero, padded}
 use Rattle.motor.specs.Motor.{latest, size_in, size, matches}
 use Rattle.motor.specs.Matching.{until_zero, string_codes, Ruled, heard_of, EndsWith}
@@ -104,33 +104,33 @@ blanks_below zero hs h = h
 blanks_below (suc j) hs h = blanks_below j hs h
 
 module _ (s : ℕ) (r : Ruled s) where
-  codes-number : packed (string_codes s) ≡ s
+  codes_number : packed (string_codes s) ≡ s
   unfolding string_codes
-  codes-number = until_number (unpacked s) r.rule ∙ packed_codes s r.word
+  codes_number = until_number (unpacked s) r.rule ∙ packed_codes s r.word
 
-  codes-below : all_below 32 (string_codes s) ≡ true
+  codes_below : all_below 32 (string_codes s) ≡ true
   unfolding string_codes
-  codes-below = until_below (unpacked s) (digits-below 32 (lit≤ tt) 8 s)
+  codes_below = until_below (unpacked s) (digits_below 32 (lit≤ tt) 8 s)
 
   -- eight at most
-  pub codes-few : length (string_codes s) ≤ 8
+  pub codes_few : length (string_codes s) ≤ 8
   unfolding string_codes
-  codes-few = omega (arith, until_few (unpacked s), digits-length 32 (lit≤ tt) 8 s)
+  codes_few = omega (arith, until_few (unpacked s), digits_length 32 (lit≤ tt) 8 s)
 
   -- as many as the string has
-  pub size-codes : size s ≡ length (string_codes s)
+  pub size_codes : size s ≡ length (string_codes s)
   unfolding size string_codes
-  size-codes = size_until 8 s (ltb-true s 1099511627776 r.word) r.rule
+  size_codes = size_until 8 s (ltb-true s 1099511627776 r.word) r.rule
 
   -- the last codes heard are its number
   same_number : (hs : List ℕ) → matches s (heard_of hs) ≡ true → (0 < s) × (latest (length (string_codes s)) (heard_of hs) ≡ packed (string_codes s))
   unfolding matches
   same_number hs h =
       let b = both (ltb 0 s) (eqb (latest (size s) (heard_of hs)) s) h in
-      (ltb-true 0 s b.0, ap (λ (n : ℕ). latest n (heard_of hs)) (sym size-codes) ∙ eqb-true (latest (size s) (heard_of hs)) s b.1 ∙ sym codes-number)
+      (ltb-true 0 s b.0, ap (λ (n : ℕ). latest n (heard_of hs)) (sym size_codes) ∙ eqb-true (latest (size s) (heard_of hs)) s b.1 ∙ sym codes_number)
 
-  some-codes : 0 < s → string_codes s ≡ [] → ⊥
-  some-codes l e = omega (arith, codes-number, ap packed e)
+  some_codes : 0 < s → string_codes s ≡ [] → ⊥
+  some_codes l e = omega (arith, codes_number, ap packed e)
 
   above_zero : (string_codes s ≡ [] → ⊥) → 0 < s
   unfolding string_codes
@@ -149,9 +149,9 @@ module _ (s : ℕ) (r : Ruled s) where
         let whole : take j hs ++ drop j hs ≡ hs = take-append-drop j hs in
         let size : length (drop j hs) ≡ length cs = omega (arith, length-drop j hs) in
         let b = below_parts (take j hs) (drop j hs) (rw whole below) in
-        let f : latest (length (drop j hs)) (heard_of (take j hs ++ drop j hs)) ≡ packed (drop j hs) = latest_heard (take j hs) (drop j hs) b.1 (omega (arith, size, codes-few)) in
+        let f : latest (length (drop j hs)) (heard_of (take j hs ++ drop j hs)) ≡ packed (drop j hs) = latest_heard (take j hs) (drop j hs) b.1 (omega (arith, size, codes_few)) in
         let g : latest (length cs) (heard_of hs) ≡ packed (drop j hs) = subst (λ (n : ℕ). latest n (heard_of hs) ≡ packed (drop j hs)) size (subst (λ (xs : List ℕ). latest (length (drop j hs)) (heard_of xs) ≡ packed (drop j hs)) whole f) in
-        let same : drop j hs ≡ cs = packed_same (drop j hs) cs size b.1 codes-below (sym g ∙ e) in
+        let same : drop j hs ≡ cs = packed_same (drop j hs) cs size b.1 codes_below (sym g ∙ e) in
         sym whole ∙ ap (λ (xs : List ℕ). take j hs ++ xs) same
 
     -- fewer were: the string would begin with 0
@@ -161,9 +161,9 @@ module _ (s : ℕ) (r : Ruled s) where
         let cs = string_codes s in
         let xs = replicate (suc j) 0 ++ hs in
         let size : length xs ≡ length cs = length-append (replicate (suc j) 0) hs ∙ ap (λ (n : ℕ). n + length hs) (length-replicate (suc j) 0) ∙ sym l in
-        let f : latest (length xs) (heard_of xs) ≡ packed xs = latest_heard [] xs (blanks_below (suc j) hs below) (omega (arith, size, codes-few)) in
+        let f : latest (length xs) (heard_of xs) ≡ packed xs = latest_heard [] xs (blanks_below (suc j) hs below) (omega (arith, size, codes_few)) in
         let g : latest (length cs) (heard_of hs) ≡ packed xs = subst (λ (n : ℕ). latest n (heard_of hs) ≡ packed xs) size (subst (λ (m : ℕ). latest (length xs) m ≡ packed xs) (blanks_heard (suc j) hs) f) in
-        let same : xs ≡ cs = packed_same xs cs size (blanks_below (suc j) hs below) codes-below (sym g ∙ e) in
+        let same : xs ≡ cs = packed_same xs cs size (blanks_below (suc j) hs below) codes_below (sym g ∙ e) in
         until_first (unpacked s) (replicate j 0 ++ hs) (sym same)
 
     -- a match: the codes heard end with the string's
@@ -171,7 +171,7 @@ module _ (s : ℕ) (r : Ruled s) where
     matched h = let b = same_number hs h in go b.0 b.1 (leb (length (string_codes s)) (length hs)) refl
       where
         go : 0 < s → latest (length (string_codes s)) (heard_of hs) ≡ packed (string_codes s) → (t : Bool) → leb (length (string_codes s)) (length hs) ≡ t → EndsWith (string_codes s) hs
-        go l e true t = record { before = take (length hs - length (string_codes s)) hs; whole = enough (leb-true (length (string_codes s)) (length hs) t) e; some = some-codes l }
+        go l e true t = record { before = take (length hs - length (string_codes s)) hs; whole = enough (leb-true (length (string_codes s)) (length hs) t) e; some = some_codes l }
         go l e false t =
             let n = length (string_codes s) - suc (length hs) in
             let f : length (string_codes s) ≡ suc n + length hs = omega (arith, leb-false (length (string_codes s)) (length hs) t) in
@@ -181,5 +181,5 @@ module _ (s : ℕ) (r : Ruled s) where
     pub matching : EndsWith (string_codes s) hs → matches s (heard_of hs) ≡ true
     unfolding matches
     matching w =
-        let e : latest (size s) (heard_of hs) ≡ s = rw (size-codes, w.whole) (latest_heard w.before (string_codes s) codes-below codes-few ∙ codes-number) in
+        let e : latest (size s) (heard_of hs) ≡ s = rw (size_codes, w.whole) (latest_heard w.before (string_codes s) codes_below codes_few ∙ codes_number) in
         rw (lt-ltb 0 s (above_zero w.some), eq-eqb (latest (size s) (heard_of hs)) s e)

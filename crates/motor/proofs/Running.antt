@@ -12,7 +12,7 @@ use Rattle.motor.specs.Motor.{heard_with, matches, signal, starts, later, while_
 use Rattle.motor.specs.Matching.{heard_on, heard_of}
 use Rattle.motor.specs.Turning.{run_after, on_after, stop_in}
 use Rattle.motor.proofs.Heard.{heard_append}
-use Rattle.motor.proofs.Told.{Told, off, on, afresh, still-off, newly-called, still-called}
+use Rattle.motor.proofs.Told.{Told, off, on, afresh, still_off, newly_called, still_called}
 
 -- first some codes, then others
 all_append : (k : Calling) (xs ys : List ℕ) (m : Motor) → hearing_all k m (xs ++ ys) ≡ hearing_all k (hearing_all k m xs) ys
@@ -59,9 +59,9 @@ pub moved : (ends : ℕ → Bool) (s t n : ℕ) (q r : Run) → s ≡ t → q �
 moved ends s t n q r a b w = subst (λ (x : ℕ). Told ends x n q) (sym a) (subst (λ (x : Run). Told ends t n x) (sym b) w)
 
 module _ (k : Calling) (hs : List ℕ) where
-  stop-most : (n : ℕ) → stop_in k hs n ≤ n
-  stop-most zero = omega arith
-  stop-most (suc n) = go (stop-most n) (on_after k (take n hs) && not (on_after k (take (suc n) hs)))
+  stop_most : (n : ℕ) → stop_in k hs n ≤ n
+  stop_most zero = omega arith
+  stop_most (suc n) = go (stop_most n) (on_after k (take n hs) && not (on_after k (take (suc n) hs)))
     where
       go : stop_in k hs n ≤ n → (b : Bool) → cond b (suc n) (stop_in k hs n) ≤ suc n
       go l true = omega arith
@@ -81,8 +81,8 @@ module _ (k : Calling) (hs : List ℕ) where
         moved (ends_at k hs) (stop_in k hs (suc n)) (stop_in k hs n) (suc n) (run_at k hs (suc n)) r s f t
 
     -- a stop
-    stop-made : run_at k hs n ≡ On → run_at k hs (suc n) ≡ Off → stop_in k hs (suc n) ≡ suc n
-    stop-made e f =
+    stop_made : run_at k hs n ≡ On → run_at k hs (suc n) ≡ Off → stop_in k hs (suc n) ≡ suc n
+    stop_made e f =
         ap (λ (b : Bool). cond (b && not (on_after k (take (suc n) hs))) (suc n) (stop_in k hs n)) (ap is_on e)
         ∙ ap (λ (b : Bool). cond (not b) (suc n) (stop_in k hs n)) (ap is_on f)
 
@@ -91,31 +91,31 @@ module _ (k : Calling) (hs : List ℕ) where
     from_on e = go (matches (signal k 1) (heard_of (take (suc n) hs))) (turn On e)
       where
         go : (b : Bool) → run_at k hs (suc n) ≡ cond b Off On → Knows k hs (suc n)
-        go true f = moved (ends_at k hs) (stop_in k hs (suc n)) (suc n) (suc n) (run_at k hs (suc n)) Off (stop-made e f) f (afresh (ends_at k hs) n)
+        go true f = moved (ends_at k hs) (stop_in k hs (suc n)) (suc n) (suc n) (run_at k hs (suc n)) Off (stop_made e f) f (afresh (ends_at k hs) n)
         go false f = moved (ends_at k hs) (stop_in k hs (suc n)) (stop_in k hs (suc n)) (suc n) (run_at k hs (suc n)) On refl f on
 
-    from-off : run_at k hs n ≡ Off → Told (ends_at k hs) (stop_in k hs n) n Off → Knows k hs (suc n)
+    from_off : run_at k hs n ≡ Off → Told (ends_at k hs) (stop_in k hs n) n Off → Knows k hs (suc n)
     unfolding while_off
-    from-off e t = go (starts k (heard_of (take (suc n) hs)) 0) (ends_at k hs (suc n)) refl (turn Off e)
+    from_off e t = go (starts k (heard_of (take (suc n) hs)) 0) (ends_at k hs (suc n)) refl (turn Off e)
       where
         go : (a b : Bool) → ends_at k hs (suc n) ≡ b → run_at k hs (suc n) ≡ cond a On (cond b (Called 0) Off) → Knows k hs (suc n)
         go true b d f = unstopped Off On e refl on f
-        go false true d f = unstopped Off (Called 0) e refl (newly-called (ends_at k hs) n (stop_in k hs n) (stop-most n) t d) f
-        go false false d f = unstopped Off Off e refl (still-off (ends_at k hs) n (stop_in k hs n) t d) f
+        go false true d f = unstopped Off (Called 0) e refl (newly_called (ends_at k hs) n (stop_in k hs n) (stop_most n) t d) f
+        go false false d f = unstopped Off Off e refl (still_off (ends_at k hs) n (stop_in k hs n) t d) f
 
-    from-called : (j : ℕ) → run_at k hs n ≡ Called j → Told (ends_at k hs) (stop_in k hs n) n (Called j) → Knows k hs (suc n)
-    from-called j e t = go (starts k (heard_of (take (suc n) hs)) (later j)) (turn (Called j) e)
+    from_called : (j : ℕ) → run_at k hs n ≡ Called j → Told (ends_at k hs) (stop_in k hs n) n (Called j) → Knows k hs (suc n)
+    from_called j e t = go (starts k (heard_of (take (suc n) hs)) (later j)) (turn (Called j) e)
       where
         go : (a : Bool) → run_at k hs (suc n) ≡ cond a On (Called (later j)) → Knows k hs (suc n)
         go true f = unstopped (Called j) On e refl on f
-        go false f = unstopped (Called j) (Called (later j)) e refl (still-called (ends_at k hs) n (stop_in k hs n) j t) f
+        go false f = unstopped (Called j) (Called (later j)) e refl (still_called (ends_at k hs) n (stop_in k hs n) j t) f
 
     one_more : (r : Run) → run_at k hs n ≡ r → Told (ends_at k hs) (stop_in k hs n) n r → Knows k hs (suc n)
-    one_more Off e t = from-off e t
-    one_more (Called j) e t = from-called j e t
+    one_more Off e t = from_off e t
+    one_more (Called j) e t = from_called j e t
     one_more On e t = from_on e
 
   -- after each code
-  pub told-after : (n : ℕ) → n ≤ length hs → Knows k hs n
-  told-after zero h = off (λ m c. omega (arith, c.after, c.within))
-  told-after (suc n) h = one_more n h (run_at k hs n) refl (told-after n (omega arith))
+  pub told_after : (n : ℕ) → n ≤ length hs → Knows k hs n
+  told_after zero h = off (λ m c. omega (arith, c.after, c.within))
+  told_after (suc n) h = one_more n h (run_at k hs n) refl (told_after n (omega arith))

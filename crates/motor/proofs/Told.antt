@@ -49,11 +49,11 @@ module _ (ends : ℕ → Bool) (n : ℕ) where
     kept : (m : ℕ) → Counts ends stop n m → Counts ends stop (suc n) m
     kept m c = record { after = c.after; within = omega (arith, c.within); ended = c.ended }
 
-    pub still-off : Told ends stop n Off → ends (suc n) ≡ false → Told ends stop (suc n) Off
-    still-off (off f) e = off (λ m c. split m c (λ d. f m d) (λ w. false≢true (sym e ∙ (ap ends (sym w) ∙ c.ended))))
+    pub still_off : Told ends stop n Off → ends (suc n) ≡ false → Told ends stop (suc n) Off
+    still_off (off f) e = off (λ m c. split m c (λ d. f m d) (λ w. false≢true (sym e ∙ (ap ends (sym w) ∙ c.ended))))
 
-    pub newly-called : stop ≤ n → Told ends stop n Off → ends (suc n) ≡ true → Told ends stop (suc n) (Called 0)
-    newly-called s (off f) e =
+    pub newly_called : stop ≤ n → Told ends stop n Off → ends (suc n) ≡ true → Told ends stop (suc n) (Called 0)
+    newly_called s (off f) e =
         called 0
         (record {
           place = suc n;
@@ -62,8 +62,8 @@ module _ (ends : ℕ → Bool) (n : ℕ) where
           ago = omega arith;
         })
 
-    pub still-called : (j : ℕ) → Told ends stop n (Called j) → Told ends stop (suc n) (Called (later j))
-    still-called j (called i c) =
+    pub still_called : (j : ℕ) → Told ends stop n (Called j) → Told ends stop (suc n) (Called (later j))
+    still_called j (called i c) =
         called (later j)
         (record {
           place = c.place;
@@ -88,10 +88,10 @@ pub record Behind (ends : ℕ → Bool) (stop n size : ℕ) : Type 0 where
   pub room : place + size ≤ suc n
 
 module _ (ends : ℕ → Bool) (stop n size : ℕ) (some : 0 < size) where
-  pub within-reach : (r : Run) → Told ends stop n r → is_on r ≡ false → size ≤ since r → Behind ends stop n size
-  within-reach Off t o l = absurd (omega arith)
-  within-reach (Called j) (called i c) o l = record { place = c.place; after = c.counts.after; ended = c.counts.ended; room = omega (arith, c.ago, c.counts.within, l) }
-  within-reach On t o l = absurd (true≢false o)
+  pub within_reach : (r : Run) → Told ends stop n r → is_on r ≡ false → size ≤ since r → Behind ends stop n size
+  within_reach Off t o l = absurd (omega arith)
+  within_reach (Called j) (called i c) o l = record { place = c.place; after = c.counts.after; ended = c.counts.ended; room = omega (arith, c.ago, c.counts.within, l) }
+  within_reach On t o l = absurd (true≢false o)
 
   pub reaches : (r : Run) → Told ends stop n r → is_on r ≡ false → size ≤ 8 → Behind ends stop n size → size ≤ since r
   reaches Off (off f) o few b = absurd (f b.place (record { after = b.after; within = omega (arith, b.room); ended = b.ended }))

@@ -16,9 +16,9 @@ use Rattle.motor.specs.Names.{Calling, Run, Off, Called, On}
 use Rattle.motor.specs.Motor.{latest, size_in, size, matches, comes, signal, starts, later, while_on, while_off, turned, is_on}
 use Rattle.motor.specs.Matching.{string_codes, Ruled, heard_of, EndsWith}
 use Rattle.motor.specs.Turning.{Signals, run_after, on_after, stop_in, last_stop, Answers, Starts, by91, by94, by95, TurnsOn, TurnsOff}
-use Rattle.motor.proofs.Matching.{below_parts, codes-few, size-codes, matched, matching}
-use Rattle.motor.proofs.Told.{Told, since, Behind, within-reach, reaches}
-use Rattle.motor.proofs.Running.{run_next, stop_before, ends_at, moved, told-after}
+use Rattle.motor.proofs.Matching.{below_parts, codes_few, size_codes, matched, matching}
+use Rattle.motor.proofs.Told.{Told, since, Behind, within_reach, reaches}
+use Rattle.motor.proofs.Running.{run_next, stop_before, ends_at, moved, told_after}
 
 -- What the motor power mode chooses of three tests.
 
@@ -98,25 +98,25 @@ module _ (k : Calling) (g : Signals k) where
         moved (ends_at k (hs ++ c ∷ [])) (last_stop k hs) (stop_in k (hs ++ c ∷ []) (length hs)) (length hs) (run_after k hs) (run_after k (take (length hs) (hs ++ c ∷ [])))
         (sym (stop_before k hs (c ∷ []) (length hs) (omega arith)))
         (ap (run_after k) (sym (take-append_seam hs (c ∷ []))))
-        (told-after k (hs ++ c ∷ []) (length hs) (omega (arith, longer)))
+        (told_after k (hs ++ c ∷ []) (length hs) (omega (arith, longer)))
 
     -- codes up to a place are codes
-    below-take : (p : ℕ) → all_below 32 (take p (hs ++ c ∷ [])) ≡ true
-    below-take p = (below_parts (take p (hs ++ c ∷ [])) (drop p (hs ++ c ∷ [])) (rw (take-append-drop p (hs ++ c ∷ [])) below)).0
+    below_take : (p : ℕ) → all_below 32 (take p (hs ++ c ∷ [])) ≡ true
+    below_take p = (below_parts (take p (hs ++ c ∷ [])) (drop p (hs ++ c ∷ [])) (rw (take-append-drop p (hs ++ c ∷ [])) below)).0
 
     module _ (i : ℕ) (o : on_after k hs ≡ false) where
       -- string i comes after string 93
-      answer-if : comes (signal k i) (heard_of (hs ++ c ∷ [])) (since (run_after k hs)) ≡ true → Answers k (last_stop k hs) (string_codes (signal k i)) (hs ++ c ∷ [])
+      answer_if : comes (signal k i) (heard_of (hs ++ c ∷ [])) (since (run_after k hs)) ≡ true → Answers k (last_stop k hs) (string_codes (signal k i)) (hs ++ c ∷ [])
       unfolding comes
-      answer-if h =
+      answer_if h =
           let all = hs ++ c ∷ [] in
           let s = signal k i in
           let b = both (matches s (heard_of all)) (leb (size s) (since (run_after k hs))) h in
           let w : EndsWith (string_codes s) all = matched s (ruled i) all below b.0 in
-          let r : Behind (ends_at k all) (last_stop k hs) (length hs) (size s) = within-reach (ends_at k all) (last_stop k hs) (length hs) (size s) (match_size s (heard_of all) b.0) (run_after k hs) known o (leb-true (size s) (since (run_after k hs)) b.1) in
+          let r : Behind (ends_at k all) (last_stop k hs) (length hs) (size s) = within_reach (ends_at k all) (last_stop k hs) (length hs) (size s) (match_size s (heard_of all) b.0) (run_after k hs) known o (leb-true (size s) (since (run_after k hs)) b.1) in
           let p = r.place in
           let inside : p ≤ length all = omega (arith, r.room, longer) in
-          let fits : p ≤ length w.before = omega (arith, r.room, longer, size-codes s (ruled i), ap length w.whole, length-append w.before (string_codes s)) in
+          let fits : p ≤ length w.before = omega (arith, r.room, longer, size_codes s (ruled i), ap length w.whole, length-append w.before (string_codes s)) in
           let front : take p all ≡ take p w.before = ap (take p) w.whole ∙ take-append-le p w.before (string_codes s) fits in
           let whole : all ≡ take p all ++ (drop p w.before ++ string_codes s) =
           w.whole ∙ ap (λ (xs : List ℕ). xs ++ string_codes s) (sym (take-append-drop p w.before)) ∙ append_assoc (take p w.before) (drop p w.before) (string_codes s)
@@ -126,7 +126,7 @@ module _ (k : Calling) (g : Signals k) where
             between = drop p w.before;
             whole = whole;
             some = w.some;
-            called = matched (signal k 2) (ruled 2) (take p all) (below-take p) r.ended;
+            called = matched (signal k 2) (ruled 2) (take p all) (below_take p) r.ended;
             later = omega (arith, r.after, length-take-le p all inside);
           }
 
@@ -138,17 +138,17 @@ module _ (k : Calling) (g : Signals k) where
           let p = length a.call in
           let m : matches s (heard_of all) ≡ true = matching s (ruled i) all below (record { before = a.call ++ a.between; whole = a.whole ∙ sym (append_assoc a.call a.between (string_codes s)); some = a.some }) in
           let front : take p all ≡ a.call = ap (take p) a.whole ∙ take-append_seam a.call (a.between ++ string_codes s) in
-          let e : ends_at k all p ≡ true = matching (signal k 2) (ruled 2) (take p all) (below-take p) (rw front a.called) in
-          let fits : p + size s ≤ suc (length hs) = omega (arith, longer, size-codes s (ruled i), ap length a.whole, length-append a.call (a.between ++ string_codes s), length-append a.between (string_codes s)) in
-          let few : size s ≤ 8 = omega (arith, size-codes s (ruled i), codes-few s (ruled i)) in
+          let e : ends_at k all p ≡ true = matching (signal k 2) (ruled 2) (take p all) (below_take p) (rw front a.called) in
+          let fits : p + size s ≤ suc (length hs) = omega (arith, longer, size_codes s (ruled i), ap length a.whole, length-append a.call (a.between ++ string_codes s), length-append a.between (string_codes s)) in
+          let few : size s ≤ 8 = omega (arith, size_codes s (ruled i), codes_few s (ruled i)) in
           let l : size s ≤ since (run_after k hs) = reaches (ends_at k all) (last_stop k hs) (length hs) (size s) (match_size s (heard_of all) m) (run_after k hs) known o few (record { place = p; after = a.later; ended = e; room = fits }) in
           rw (m, le-leb (size s) (since (run_after k hs)) l)
 
     module _ (o : on_after k hs ≡ false) where
       -- the test of a start says what a start is
-      starts-if : starts k (heard_of (hs ++ c ∷ [])) (since (run_after k hs)) ≡ true → Starts k (last_stop k hs) (hs ++ c ∷ [])
+      starts_if : starts k (heard_of (hs ++ c ∷ [])) (since (run_after k hs)) ≡ true → Starts k (last_stop k hs) (hs ++ c ∷ [])
       unfolding starts
-      starts-if h =
+      starts_if h =
           let all = hs ++ c ∷ [] in
           let n = since (run_after k hs) in
           go (chosen k.power (matches (signal k 0) (heard_of all)) (comes (signal k 3) (heard_of all) n) (comes (signal k 4) (heard_of all) n) h)
@@ -156,12 +156,12 @@ module _ (k : Calling) (g : Signals k) where
           go : Chosen k.power (matches (signal k 0) (heard_of (hs ++ c ∷ []))) (comes (signal k 3) (heard_of (hs ++ c ∷ [])) (since (run_after k hs))) (comes (signal k 4) (heard_of (hs ++ c ∷ [])) (since (run_after k hs)))
               → Starts k (last_stop k hs) (hs ++ c ∷ [])
           go (first e t) = by91 e (matched (signal k 0) (ruled 0) (hs ++ c ∷ []) below t)
-          go (second e t) = by94 e (answer-if 3 o t)
-          go (third e t) = by95 e (answer-if 4 o t)
+          go (second e t) = by94 e (answer_if 3 o t)
+          go (third e t) = by95 e (answer_if 4 o t)
 
-      starts-so : Starts k (last_stop k hs) (hs ++ c ∷ []) → starts k (heard_of (hs ++ c ∷ [])) (since (run_after k hs)) ≡ true
+      starts_so : Starts k (last_stop k hs) (hs ++ c ∷ []) → starts k (heard_of (hs ++ c ∷ [])) (since (run_after k hs)) ≡ true
       unfolding starts
-      starts-so s =
+      starts_so s =
           let all = hs ++ c ∷ [] in
           let n = since (run_after k hs) in
           choosing k.power (matches (signal k 0) (heard_of all)) (comes (signal k 3) (heard_of all) n) (comes (signal k 4) (heard_of all) n) (go s)
@@ -172,16 +172,16 @@ module _ (k : Calling) (g : Signals k) where
           go (by94 e a) = second e (answer 3 o a)
           go (by95 e a) = third e (answer 4 o a)
 
-      on-next : on_after k (hs ++ c ∷ []) ≡ starts k (heard_of (hs ++ c ∷ [])) (since (run_after k hs))
-      on-next = ap is_on (run_next k hs c) ∙ off_turned k (heard_of (hs ++ c ∷ [])) (run_after k hs) o
+      on_next : on_after k (hs ++ c ∷ []) ≡ starts k (heard_of (hs ++ c ∷ [])) (since (run_after k hs))
+      on_next = ap is_on (run_next k hs c) ∙ off_turned k (heard_of (hs ++ c ∷ [])) (run_after k hs) o
 
       -- while it is off, a start turns it on
       pub starting : Starts k (last_stop k hs) (hs ++ c ∷ []) → TurnsOn k hs c
-      starting s = record { off = o; on = on-next ∙ starts-so s }
+      starting s = record { off = o; on = on_next ∙ starts_so s }
 
     -- and nothing else does
     pub started : TurnsOn k hs c → Starts k (last_stop k hs) (hs ++ c ∷ [])
-    started t = starts-if t.off (sym (on-next t.off) ∙ t.on)
+    started t = starts_if t.off (sym (on_next t.off) ∙ t.on)
 
     off_next : on_after k hs ≡ true → on_after k (hs ++ c ∷ []) ≡ not (matches (signal k 1) (heard_of (hs ++ c ∷ [])))
     off_next o = ap is_on (run_next k hs c) ∙ on_turned k (heard_of (hs ++ c ∷ [])) (run_after k hs) o

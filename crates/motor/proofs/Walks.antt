@@ -29,8 +29,8 @@ unfolding size
 none_counted string = record { within = omega arith; whole = omega arith }
 
 module _ (string n rest : ℕ) (c : Counted string n rest) where
-  pub one-counted : n < 8 → (rest ≡ 0 → ⊥) → Counted string (n + 1) (rest / 32)
-  one-counted h z =
+  pub one_counted : n < 8 → (rest ≡ 0 → ⊥) → Counted string (n + 1) (rest / 32)
+  one_counted h z =
       let s : 8 - n ≡ suc (8 - (n + 1)) = omega arith in
       let e : size_in (8 - n) rest ≡ suc (size_in (8 - (n + 1)) (rest / 32)) = ap (λ (j : ℕ). size_in j rest) s ∙ rw (ne_eqb rest 0 z) in
       record { within = omega arith; whole = omega (arith, c.whole) }
@@ -41,8 +41,8 @@ module _ (string n rest : ℕ) (c : Counted string n rest) where
       let e : size_in (8 - n) rest ≡ 0 = ap (λ (j : ℕ). size_in j rest) s ∙ rw (eq-eqb rest 0 z) in
       omega (arith, c.whole)
 
-  pub all-counted : 8 ≤ n → n ≡ size string
-  all-counted h =
+  pub all_counted : 8 ≤ n → n ≡ size string
+  all_counted h =
       let s : 8 - n ≡ 0 = omega arith in
       let e : size_in (8 - n) rest ≡ 0 = ap (λ (j : ℕ). size_in j rest) s in
       omega (arith, c.whole)

@@ -70,41 +70,41 @@ module _ (c : Wire) (p : Promised c) where
     abbrev d : Done
     d = call t s c.bytes a b
 
-    asks-call : asked t c.state c.bytes a b ≡ d
-    asks-call = rw (both (spells c.state) (sound s) h).0
+    asks_call : asked t c.state c.bytes a b ≡ d
+    asks_call = rw (both (spells c.state) (sound s) h).0
 
     follows : Follows c d
-    follows = rw asks-call at (boards_follow c _ p)
+    follows = rw asks_call at (boards_follow c _ p)
 
-    ours-ended : Ended t s c.bytes c.one c.two (ours t s c.bytes c.one c.two)
-    ours-ended = ours_every_call t s c.bytes c.one c.two
+    ours_ended : Ended t s c.bytes c.one c.two (ours t s c.bytes c.one c.two)
+    ours_ended = ours_every_call t s c.bytes c.one c.two
 
-    stays-sound : sound d.state ≡ true
-    stays-sound = rw ours-ended.state (sound_run s (events t ours-ended.taken) (both (spells c.state) (sound s) h).1)
+    stays_sound : sound d.state ≡ true
+    stays_sound = rw ours_ended.state (sound_run s (events t ours_ended.taken) (both (spells c.state) (sound s) h).1)
 
-    after-spelt : c.after ≡ spelt d.state
-    after-spelt = follows.bytes ∙ rw h
+    after_spelt : c.after ≡ spelt d.state
+    after_spelt = follows.bytes ∙ rw h
 
-    seen-ours : seen c ≡ ours t s c.bytes c.one c.two
-    seen-ours = seen_follows c d follows (ap state_of after-spelt ∙ (spelt_back d.state stays-sound).1)
+    seen_ours : seen c ≡ ours t s c.bytes c.one c.two
+    seen_ours = seen_follows c d follows (ap state_of after_spelt ∙ (spelt_back d.state stays_sound).1)
 
     sound_after : spells_sound c.after ≡ true
     sound_after =
-        let e = spelt_back d.state stays-sound in
-        rw (after-spelt, e.0, e.1) stays-sound
+        let e = spelt_back d.state stays_sound in
+        rw (after_spelt, e.0, e.1) stays_sound
 
   -- any others are answered 3
   module _ (h : spells_sound c.state ≡ false) where
-    refused-follows : Follows c (stopped 3 s)
-    refused-follows = rw (three t c.state c.bytes a b h) at (boards_follow c _ p)
+    refused_follows : Follows c (stopped 3 s)
+    refused_follows = rw (three t c.state c.bytes a b h) at (boards_follow c _ p)
 
     after_kept : c.after ≡ c.state
-    after_kept = refused-follows.bytes ∙ rw h
+    after_kept = refused_follows.bytes ∙ rw h
 
-  pub one-call : OneCall c
-  one-call = record {
-    ended = λ h. rw (seen-ours h) (ours-ended h);
+  pub one_call : OneCall c
+  one_call = record {
+    ended = λ h. rw (seen_ours h) (ours_ended h);
     spelt = sound_after;
-    refused = λ h. seen_follows c (stopped 3 s) (refused-follows h) (ap state_of (after_kept h));
+    refused = λ h. seen_follows c (stopped 3 s) (refused_follows h) (ap state_of (after_kept h));
     kept = after_kept;
   }

@@ -16,14 +16,14 @@ use Rattle.demands.proofs.Lent.{Meets, meets_reads_back, meets_prints}
 use Rattle.onboard.specs.Names.{State}
 use Rattle.onboard.specs.OneCall.{Wire, Promised}
 use Rattle.onboard.specs.Session.{as_exchanges, Session, last_bytes, Demanded}
-use Rattle.onboard.proofs.OneCall.{spelt_back, one-call}
+use Rattle.onboard.proofs.OneCall.{spelt_back, one_call}
 
 -- from bytes that spell a sound state on
 session_meets : (b : List ℕ) (cs : List Wire) → spells_sound b ≡ true → Session b cs → Meets (state_of b) (as_exchanges cs)
 session_meets b [] h k = tt
 session_meets b (c ∷ cs) h k =
     let e = k.0.0 in
-    let one = one-call c k.0.1 in
+    let one = one_call c k.0.1 in
     let from : spells_sound c.state ≡ true = rw e h in
     ((subst (λ (s : List ℕ). Meets (state_of s) (as_exchanges (c ∷ []))) e (one.ended from, tt)).0, session_meets c.after cs (one.spelt from) k.1)
 
@@ -31,7 +31,7 @@ session_left : (b : List ℕ) (cs : List Wire) → spells_sound b ≡ true → S
 session_left b [] h k = its_spelling b (both (spells b) (sound (state_of b)) h).0
 session_left b (c ∷ cs) h k =
     let from : spells_sound c.state ≡ true = rw k.0.0 h in
-    session_left c.after cs ((one-call c k.0.1).spelt from) k.1
+    session_left c.after cs ((one_call c k.0.1).spelt from) k.1
 
 -- What the calls for C are given and write, from `linebox_fresh` on, meets the demands.
 pub session_demanded : (cs : List Wire) → Session (spelt fresh_box) cs → Demanded cs

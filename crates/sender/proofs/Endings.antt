@@ -33,25 +33,25 @@ pub record Ending (o : Settings) (start : Record) (string old : List ℕ) (held 
   pub places : Filled old now p k
 
 module _ (o : Settings) (start : Record) (string : List ℕ) where
-  none-ended : Ended o start string start string []
-  none-ended = record { note = refl; rest = refl }
+  none_ended : Ended o start string start string []
+  none_ended = record { note = refl; rest = refl }
 
-  pub ending-start : (old : List ℕ) → Ending o start string old start string old 0
-  ending-start old = record { p = []; ended = none-ended; places = filled_none old }
+  pub ending_start : (old : List ℕ) → Ending o start string old start string old 0
+  ending_start old = record { p = []; ended = none_ended; places = filled_none old }
 
   module _ (held : Record) (others : List ℕ) where
     -- the string's end, or its first 0
-    pub at-end : others ≡ [] → until_zero others ≡ []
-    at-end e = rw e
+    pub at_end : others ≡ [] → until_zero others ≡ []
+    at_end e = rw e
 
     pub at_zero : (c : ℕ) (cs : List ℕ) → others ≡ c ∷ cs → eqb c 0 ≡ true → until_zero others ≡ []
     at_zero c cs first z = rw (first, z)
 
-    all-ended : (p : List ℕ) → Ended o start string held others p → until_zero others ≡ [] → ending_of o start (until_zero string) ≡ p
-    all-ended p e z = e.rest ∙ rw (z, append-nil)
+    all_ended : (p : List ℕ) → Ended o start string held others p → until_zero others ≡ [] → ending_of o start (until_zero string) ≡ p
+    all_ended p e z = e.rest ∙ rw (z, append-nil)
 
-    pub ending-over : (old now : List ℕ) (k : ℕ) → Ending o start string old held others now k → until_zero others ≡ [] → Notes o start (ending_of o start (until_zero string)) old now (record { held = held; count = k })
-    ending-over old now k e z = rw (all-ended e.p e.ended z) (record { held = e.ended.note; places = e.places })
+    pub ending_over : (old now : List ℕ) (k : ℕ) → Ending o start string old held others now k → until_zero others ≡ [] → Notes o start (ending_of o start (until_zero string)) old now (record { held = held; count = k })
+    ending_over old now k e z = rw (all_ended e.p e.ended z) (record { held = e.ended.note; places = e.places })
 
     -- one code more
     module _ (c : ℕ) (cs : List ℕ) (first : others ≡ c ∷ cs) (z : eqb c 0 ≡ false) where
@@ -71,10 +71,10 @@ module _ (o : Settings) (start : Record) (string : List ℕ) where
           }
 
       -- it has room where the whole ending has
-      pub ending-room : (old now : List ℕ) (k : ℕ) → Ending o start string old held others now k → length (ending_of o start (until_zero string)) ≤ length old → length x ≤ length now - k
-      ending-room old now k e fits =
+      pub ending_room : (old now : List ℕ) (k : ℕ) → Ending o start string old held others now k → length (ending_of o start (until_zero string)) ≤ length old → length x ≤ length now - k
+      ending_room old now k e fits =
           let all = (one_ended e.p e.ended).rest in
           omega (arith, fits, ap length all, length-append (e.p ++ x) (ending_of o next (until_zero cs)), length-append e.p x, e.places.count, e.places.same_length)
 
-      pub ending-turn : (old now ys : List ℕ) (k m : ℕ) → Ending o start string old held others now k → Filled (mid_of k (length now - k) now) ys x m → Ending o start string old next cs (put_mid k (length now - k) now ys) (k + m)
-      ending-turn old now ys k m e f = record { p = e.p ++ x; ended = one_ended e.p e.ended; places = filled_on old now e.p x ys k m e.places f }
+      pub ending_turn : (old now ys : List ℕ) (k m : ℕ) → Ending o start string old held others now k → Filled (mid_of k (length now - k) now) ys x m → Ending o start string old next cs (put_mid k (length now - k) now ys) (k + m)
+      ending_turn old now ys k m e f = record { p = e.p ++ x; ended = one_ended e.p e.ended; places = filled_on old now e.p x ys k m e.places f }

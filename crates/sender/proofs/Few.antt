@@ -65,26 +65,26 @@ text_few o [] = omega arith
 text_few o (b ∷ bs) = rw (length-append (wanted_by o Text b) (wanted_text o bs)) (omega (arith, wanted_few (converted o Text b), text_few o bs))
 
 module _ (o : Settings) where
-  ending-most : (r : Record) (b : Bool) → length (ending o r b) ≤ 16
-  ending-most r true = omega (arith, ending_length o r (until_zero (ending_codes o)), until_length (ending_codes o), eight_codes o)
-  ending-most r false = omega arith
+  ending_most : (r : Record) (b : Bool) → length (ending o r b) ≤ 16
+  ending_most r true = omega (arith, ending_length o r (until_zero (ending_codes o)), until_length (ending_codes o), eight_codes o)
+  ending_most r false = omega arith
 
-  character-most : (r : Record) (w : Wanted) → length (character o r w) ≤ 18
-  character-most r w =
+  character_most : (r : Record) (w : Wanted) → length (character o r w) ≤ 18
+  character_most r w =
       let e = ending_before o r w in
       let n = (notes o r e).case in
       rw (length-append e (send_as o n w.case w.code))
-      (omega (arith, ending-most r (moves w.case (kind_of w.code) && due o r.column), code_length o n w.case w.code))
+      (omega (arith, ending_most r (moves w.case (kind_of w.code) && due o r.column), code_length o n w.case w.code))
 
-  item-most : (s : Sender) (w : Wanted) → length (item o s w) ≤ 18
-  item-most s w = go (repeats (last_of (kind_of w.code)) s.last && filter o)
+  item_most : (s : Sender) (w : Wanted) → length (item o s w) ≤ 18
+  item_most s w = go (repeats (last_of (kind_of w.code)) s.last && filter o)
     where
       go : (b : Bool) → length (cond b [] (character o s.held w)) ≤ 18
       go true = omega arith
-      go false = character-most s.held w
+      go false = character_most s.held w
 
   -- a byte's codes
-  pub byte-most : (s : Sender) (x : Conversion) → length (items o s (wanted_of x)) ≤ 18
-  byte-most s Nothing = omega arith
-  byte-most s (Free c) = rw append-nil (item-most s (wanted Letters c))
-  byte-most s (Cased case c) = rw append-nil (item-most s (wanted case c))
+  pub byte_most : (s : Sender) (x : Conversion) → length (items o s (wanted_of x)) ≤ 18
+  byte_most s Nothing = omega arith
+  byte_most s (Free c) = rw append-nil (item_most s (wanted Letters c))
+  byte_most s (Cased case c) = rw append-nil (item_most s (wanted case c))

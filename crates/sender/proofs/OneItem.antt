@@ -34,24 +34,24 @@ module _ (o : Settings) (r : Record) (w : Wanted) (k : Kind) (q : k ≡ kind_of 
     abbrev c : List ℕ
     c = send_kind o held.case w.case k w.code
 
-    character-codes : b ++ c ≡ character o r w
-    character-codes = rw (e, q)
+    character_codes : b ++ c ≡ character o r w
+    character_codes = rw (e, q)
 
-    character-held : after o held w.case k ≡ notes o r (character o r w)
-    character-held =
-        rw (← character-codes, notes_append o r b c, ← e, q) (sym (record_after o held w.case w.code))
+    character_held : after o held w.case k ≡ notes o r (character o r w)
+    character_held =
+        rw (← character_codes, notes_append o r b c, ← e, q) (sym (record_after o held w.case w.code))
 
     -- it has room where the whole character has
-    pub character-room : (old mid : List ℕ) (n : ℕ) → Filled old mid b n → length (character o r w) ≤ length old → length c ≤ length mid - n
-    character-room old mid n f fits = omega (arith, fits, ap length character-codes, length-append b c, f.count, f.same_length)
+    pub character_room : (old mid : List ℕ) (n : ℕ) → Filled old mid b n → length (character o r w) ≤ length old → length c ≤ length mid - n
+    character_room old mid n f fits = omega (arith, fits, ap length character_codes, length-append b c, f.count, f.same_length)
 
-    pub character-put : (old mid ys : List ℕ) (n m : ℕ) → Filled old mid b n → Filled (mid_of n (length mid - n) mid) ys c m
+    pub character_put : (old mid ys : List ℕ) (n m : ℕ) → Filled old mid b n → Filled (mid_of n (length mid - n) mid) ys c m
         → Notes o r (character o r w) old (put_mid n (length mid - n) mid ys) (record { held = after o held w.case k; count = n + m })
-    character-put old mid ys n m f g = record { held = character-held; places = rw (← character-codes) (filled_on old mid b c ys n m f g) }
+    character_put old mid ys n m f g = record { held = character_held; places = rw (← character_codes) (filled_on old mid b c ys n m f g) }
 
   -- the ending has room where the whole character has
-  pub ending-room : (n : ℕ) → length (character o r w) ≤ n → length b ≤ n
-  ending-room n h = omega (arith, h, ap length (character-codes (notes o r b) refl), length-append b (send_kind o (notes o r b).case w.case k w.code))
+  pub ending_room : (n : ℕ) → length (character o r w) ≤ n → length b ≤ n
+  ending_room n h = omega (arith, h, ap length (character_codes (notes o r b) refl), length-append b (send_kind o (notes o r b).case w.case k w.code))
 
 module _ (o : Settings) (s : Sender) (w : Wanted) (k : Kind) (last : Last) (p : k ≡ kind_of w.code) (q : last ≡ last_of k) where
   -- dropped
@@ -59,8 +59,8 @@ module _ (o : Settings) (s : Sender) (w : Wanted) (k : Kind) (last : Last) (p : 
     dropped : (repeats (last_of (kind_of w.code)) s.last && filter o) ≡ true
     dropped = rw (q, p) at e
 
-    pub item-dropped : (old : List ℕ) → PutsItems o s (w ∷ []) old old (record { sender = record { held = s.held; last = last }; count = 0 })
-    item-dropped old = rw (q, p) (record { sender = rw dropped; places = rw dropped (filled_none old) })
+    pub item_dropped : (old : List ℕ) → PutsItems o s (w ∷ []) old old (record { sender = record { held = s.held; last = last }; count = 0 })
+    item_dropped old = rw (q, p) (record { sender = rw dropped; places = rw dropped (filled_none old) })
 
   -- sent
   module _ (e : (repeats last s.last && filter o) ≡ false) where
@@ -70,6 +70,6 @@ module _ (o : Settings) (s : Sender) (w : Wanted) (k : Kind) (last : Last) (p : 
     pub item_room : (n : ℕ) → length (items o s (w ∷ [])) ≤ n → length (character o s.held w) ≤ n
     item_room n h = rw (kept, append-nil (character o s.held w)) at h
 
-    pub item-sent : (old now : List ℕ) (x : Noted) → Notes o s.held (character o s.held w) old now x
+    pub item_sent : (old now : List ℕ) (x : Noted) → Notes o s.held (character o s.held w) old now x
         → PutsItems o s (w ∷ []) old now (record { sender = record { held = x.held; last = last }; count = x.count })
-    item-sent old now x n = rw (q, p) (record { sender = rw (kept, n.held); places = rw (kept, append-nil) n.places })
+    item_sent old now x n = rw (q, p) (record { sender = rw (kept, n.held); places = rw (kept, append-nil) n.places })

@@ -18,7 +18,7 @@ use Rattle.sender.specs.Names.{Conversion, Nothing, Free, Cased, Settings, Sende
 use Rattle.sender.specs.Item.{items, after_items, wanted_of, converted, wanted_by, wanted_text}
 use Rattle.sender.specs.Run.{is_none, wanted_as, asks_next, stops_at, Run, no_run, run_on, most, run_of, PutsItems, SendsRun}
 use Rattle.sender.proofs.Append.{items_append, after_append}
-use Rattle.sender.proofs.Few.{byte-most}
+use Rattle.sender.proofs.Few.{byte_most}
 
 -- where there is a code, it is the one item
 pub one_wanted : (x : Conversion) → is_none x ≡ false → wanted_of x ≡ wanted_as x ∷ []
@@ -69,14 +69,14 @@ module _ (o : Settings) (start : Sender) (first : Asks) (until : Until) (bytes o
       pub no_room : stops_at until (get_or bytes n 0) ≡ false → leb most (length now - k) ≡ false → SendsRun (run_of o start first until bytes (length old)) old now (record { sender = s; asks = asks; taken = n; count = k })
       no_room z h = stops (rw (drop-cons bytes n 0 lt, z, ← e.places.same_length, h))
 
-      pub at-stop : stops_at until (get_or bytes n 0) ≡ true → SendsRun (run_of o start first until bytes (length old)) old now (record { sender = s; asks = asks; taken = n; count = k })
-      at-stop z = stops (rw (drop-cons bytes n 0 lt, z))
+      pub at_stop : stops_at until (get_or bytes n 0) ≡ true → SendsRun (run_of o start first until bytes (length old)) old now (record { sender = s; asks = asks; taken = n; count = k })
+      at_stop z = stops (rw (drop-cons bytes n 0 lt, z))
 
       -- one byte more
-      pub sends-on : stops_at until (get_or bytes n 0) ≡ false → leb most (length now - k) ≡ true → (ys : List ℕ) (x : Item)
+      pub sends_on : stops_at until (get_or bytes n 0) ≡ false → leb most (length now - k) ≡ true → (ys : List ℕ) (x : Item)
           → PutsItems o s (wanted_by o asks (get_or bytes n 0)) (mid_of k (length now - k) now) ys x
           → Sending o start first until bytes old x.sender (asks_next o asks (get_or bytes n 0)) (n + 1) (put_mid k (length now - k) now ys) (k + x.count)
-      sends-on z h ys x f =
+      sends_on z h ys x f =
           let b = get_or bytes n 0 in
           let ws = wanted_by o asks b in
           let a = length old - k in
@@ -108,7 +108,7 @@ pub text_run : (o : Settings) (s : Sender) (bs : List ℕ) (room : ℕ) → most
 text_run o s [] room h = refl
 text_run o s (b ∷ bs) room h =
     let ws = wanted_by o Text b in
-    let n = byte-most o s (converted o Text b) in
+    let n = byte_most o s (converted o Text b) in
     let u : leb most room ≡ true = le-leb most room (omega (arith, h)) in
     let v : most * length bs ≤ room - length (items o s ws) = omega (arith, h, n) in
     rw (u, text_run o (after_items o s ws) bs (room - length (items o s ws)) v, items_append o s ws (wanted_text o bs), after_append o s ws (wanted_text o bs))

@@ -9,7 +9,7 @@ use Rattle.laws.proofs.Both.{both}
 use Rattle.code.specs.Convert.{conversion}
 use Rattle.settings.specs.Table.{has_code, sound_stand_in, sound_settings}
 use Rattle.settings.specs.Options.{stand_in}
-use Rattle.settings.proofs.Held.{stand-in-sound}
+use Rattle.settings.proofs.Held.{stand_in_sound}
 use Rattle.sender.specs.Names.{Conversion, Nothing, Free, Cased, Settings}
 use Rattle.sender.specs.Item.{standing, or_else, spoken}
 use Rattle.sender.specs.Run.{is_none}
@@ -35,7 +35,7 @@ stand_in_coded : (o : Settings) → sound_settings o ≡ true → (stand_in o �
 unfolding sound_stand_in stand_in
 stand_in_coded o h n =
     let e = ne_eqb (stand_in o) 0 n in
-    let p = second (eqb (stand_in o) 0) (leb 33 (stand_in o) && has_code (conversion (stand_in o))) e (stand-in-sound o h) in
+    let p = second (eqb (stand_in o) 0) (leb 33 (stand_in o) && has_code (conversion (stand_in o))) e (stand_in_sound o h) in
     rw e (both (leb 33 (stand_in o)) (has_code (conversion (stand_in o))) p).1
 
 either_coded : (x other : Conversion) → has_code other ≡ true → has_code (or_else x other) ≡ true

@@ -15,7 +15,7 @@ use Rattle.settings.specs.Names.{Settings, Calling, Connection, Home, Version, L
 use Rattle.settings.specs.Table.{all_codes, padded, opens, sound_string, in_range, options, option_place, factory_values, factory, all_in, is_stand_in, sound_stand_in, sound_settings}
 use Rattle.settings.specs.Options.{ending_codes}
 use Rattle.settings.specs.Command.{store, values_at}
-use Rattle.settings.proofs.Written.{string-back}
+use Rattle.settings.proofs.Written.{string_back}
 
 -- The old texts.
 
@@ -116,7 +116,7 @@ store_as_before s k c Version n ps l i = refl
 store_as_before s k c (Linked last) n ps l i = refl
 store_as_before s k c Unlinked n ps l i = refl
 store_as_before s k c (Value place low high) n ps l i = refl
-store_as_before s k c String n ps l i = ap (λ (cs : List ℕ). record { values = s.values; string = cs }) (string-back ps l i)
+store_as_before s k c String n ps l i = ap (λ (cs : List ℕ). record { values = s.values; string = cs }) (string_back ps l i)
 store_as_before s k c Power n ps l i = refl
 store_as_before s k c (Signal place) n ps l i = refl
 store_as_before s k c Factory n ps l i = refl

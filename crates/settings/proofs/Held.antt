@@ -60,30 +60,30 @@ module _ (s : Settings) (h : sound_settings s ≡ true) where
       (b.0, both (sound_stand_in s) (is_word s.string && sound_string (unpacked s.string)) b.1)
 
   -- a value for each option, in its range
-  pub values-in : all_in options s.values ≡ true
-  values-in = tests.0
+  pub values_in : all_in options s.values ≡ true
+  values_in = tests.0
 
   -- the stand-in is sound
-  pub stand-in-sound : sound_stand_in s ≡ true
-  stand-in-sound = tests.1.0
+  pub stand_in_sound : sound_stand_in s ≡ true
+  stand_in_sound = tests.1.0
 
   -- string 90 is a word, its codes by their rules
-  pub string-in : (is_word s.string && sound_string (unpacked s.string)) ≡ true
-  string-in = tests.1.1
+  pub string_in : (is_word s.string && sound_string (unpacked s.string)) ≡ true
+  string_in = tests.1.1
 
   -- its upper bits are zero
   pub string_word : is_word s.string ≡ true
-  string_word = (both (is_word s.string) (sound_string (unpacked s.string)) string-in).0
+  string_word = (both (is_word s.string) (sound_string (unpacked s.string)) string_in).0
 
   -- the line ending is by its rules
-  pub ending-sound : sound_string (ending_codes s) ≡ true
+  pub ending_sound : sound_string (ending_codes s) ≡ true
   unfolding ending_codes
-  ending-sound = (both (is_word s.string) (sound_string (unpacked s.string)) string-in).1
+  ending_sound = (both (is_word s.string) (sound_string (unpacked s.string)) string_in).1
 
   -- the limit is in its range
-  pub limit-in : between 10 80 (limit s) ≡ true
+  pub limit_in : between 10 80 (limit s) ≡ true
   unfolding limit
-  limit-in = value_in options s.values 1 values-in (lit≤ tt)
+  limit_in = value_in options s.values 1 values_in (lit≤ tt)
 
 -- The strings of a call.
 
@@ -116,14 +116,14 @@ module _ (k : Calling) (h : sound_calling k ≡ true) where
   power_in = parts.0
 
   -- there are five strings
-  pub five-strings : length k.strings ≡ 5
-  five-strings = eqb-true (length k.strings) 5 parts.1.0
+  pub five_strings : length k.strings ≡ 5
+  five_strings = eqb-true (length k.strings) 5 parts.1.0
 
   -- each by its rules
-  pub signals-in : all_signals k.strings ≡ true
-  signals-in = parts.1.1
+  pub signals_in : all_signals k.strings ≡ true
+  signals_in = parts.1.1
 
   -- the upper bits of each are zero
   pub each_word : (i : ℕ) → is_word (get_or k.strings i 0) ≡ true
   unfolding is_signal
-  each_word i = (both (is_word (get_or k.strings i 0)) (padded (unpacked (get_or k.strings i 0))) (signal_in k.strings i signals-in)).0
+  each_word i = (both (is_word (get_or k.strings i 0)) (padded (unpacked (get_or k.strings i 0))) (signal_in k.strings i signals_in)).0

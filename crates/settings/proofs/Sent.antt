@@ -10,7 +10,7 @@ use borrow.Author.Tests.{leb-true, ltb-true, eqb-true}
 use lib.Dec.{eqb, leb, ltb, lit≤}
 use lib.ListN.{length, get_or, drop, length-append}
 use Rattle.word.specs.Word.{unpacked}
-use Rattle.word.proofs.Words.{digits-length, digits-below}
+use Rattle.word.proofs.Words.{digits_length, digits_below}
 use Rattle.message.specs.Message.{digits, numbers, framed}
 use Rattle.message.specs.Find.{AllBytes, Counted}
 use Rattle.message.proofs.Digits.{one_digit, digits_two}
@@ -23,8 +23,8 @@ use Rattle.settings.specs.Laws.{answer_of, Sound, Sendable, Short}
 use Rattle.settings.proofs.Accept.{accepted, judged}
 use Rattle.laws.proofs.Both.{both}
 use Rattle.settings.proofs.Rows.{low_at, high_at, fits_home, number_fits, row_fits, row_number}
-use Rattle.settings.proofs.Held.{values-in, value_in, power_in}
-use Rattle.settings.proofs.Written.{answer_outcome, defined, obey-sound}
+use Rattle.settings.proofs.Held.{values_in, value_in, power_in}
+use Rattle.settings.proofs.Written.{answer_outcome, defined, obey_sound}
 
 -- How long a message of codes is.
 
@@ -93,7 +93,7 @@ string id cs i h l =
 
 -- the codes of a word are
 word : (id n : ℕ) → leb id 99 ≡ true → Sendable (id ∷ length (unpacked n) ∷ unpacked n)
-word id n i = string id (unpacked n) i (digits-below 32 (lit≤ tt) 8 n) (digits-length 32 (lit≤ tt) 8 n)
+word id n i = string id (unpacked n) i (digits_below 32 (lit≤ tt) 8 n) (digits_length 32 (lit≤ tt) 8 n)
 
 option_byte : (s : Settings) (i low high : ℕ) (w r : Bool) → sound_settings s ≡ true → fits_home (Value i low high) w r ≡ true → get_or s.values i 0 ≤ 255
 option_byte s i low high w r h f =
@@ -101,7 +101,7 @@ option_byte s i low high w r h f =
     let p = both (ltb i (length options) && leb high 255) (eqb low (low_at options i) && eqb high (high_at options i)) b in
     let q = both (ltb i (length options)) (leb high 255) p.0 in
     let e = eqb-true high (high_at options i) (both (eqb low (low_at options i)) (eqb high (high_at options i)) p.1).1 in
-    within (low_at options i) (high_at options i) (get_or s.values i 0) (omega (arith, leb-true high 255 q.1, e)) (value_in options s.values i (values-in s h) (ltb-true i (length options) q.0))
+    within (low_at options i) (high_at options i) (get_or s.values i 0) (omega (arith, leb-true high 255 q.1, e)) (value_in options s.values i (values_in s h) (ltb-true i (length options) q.0))
 
 linked : (c : Connection) → sound_connection c ≡ true → sound_link (row c.mode).home c.port c.speed ≡ true
 unfolding sound_connection
@@ -145,7 +145,7 @@ module _ (s : Settings) (k : Calling) (c : Connection) (h : Sound s k c) (v : Ve
           let t = obey s k c v (row i) (drop 2 fields) in
           let j = judged (fault_of v (row i) count fields) (together v t.settings) e in
           let a = accepted v (row i) count fields j.0 in
-          sends t (reading t (row i)) (read t i (obey-sound s k c h v _ i fields l (defined v i a.n a.takes) a j.1))
+          sends t (reading t (row i)) (read t i (obey_sound s k c h v _ i fields l (defined v i a.n a.takes) a j.1))
       go fault.Type e = refuses fault.Type
       go fault.Id e = refuses fault.Id
       go fault.Parameters e = refuses fault.Parameters
@@ -158,8 +158,8 @@ module _ (s : Settings) (k : Calling) (c : Connection) (h : Sound s k c) (v : Ve
       answers_by (λ o. Sendable (answer_of o)) (λ f. few (refusing f) (lit≤ tt, (lit≤ tt, (byte, (fault_byte f, tt)))) refl (lit≤ tt)) (λ t ns sent. rw answer_outcome sent)
 
   -- whatever stands in its first field, the answer is short
-  pub answers-short : Short (commanded s k c v count fields)
-  answers-short =
+  pub answers_short : Short (commanded s k c v count fields)
+  answers_short =
       answers_by Short (λ f. record { few = lit≤ tt; short = omega (arith, framed_few (refusing f)) })
       (λ t ns sent. record { few = sent.few; short = subst (λ (l : List ℕ). length (framed l) ≤ 37) (sym (answer_outcome t ns)) sent.short })
 

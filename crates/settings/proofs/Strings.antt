@@ -10,7 +10,7 @@ use borrow.Author.Tests.{eqb-true, eqb-false, eq-eqb, ne_eqb}
 use lib.Dec.{eqb, lit≤}
 use lib.ListN.{length}
 use Rattle.word.specs.Word.{digits_by, number_by, all_below, unpacked, packed, is_word, bytes_of}
-use Rattle.word.proofs.Words.{digits-below, digits_number, fewer, codes_packed, below}
+use Rattle.word.proofs.Words.{digits_below, digits_number, fewer, codes_packed, below}
 use Rattle.settings.specs.Table.{all_codes, all_zero, padded, early, opens, sound_string, sound_signal, is_signal}
 
 -- so many codes are left, and what is asked of all is asked of them
@@ -95,7 +95,7 @@ signal_word cs l h = rw (below cs l h, h) (ap padded (codes_packed cs l h))
 -- a word's codes need no test
 pub word_string : (n : ℕ) → (padded (unpacked n) && opens (unpacked n)) ≡ sound_string (unpacked n)
 unfolding sound_string
-word_string n = rw (digits-below 32 (lit≤ tt) 8 n)
+word_string n = rw (digits_below 32 (lit≤ tt) 8 n)
 
 -- a number made of bytes has them as its own
 pub bytes_number : (bs : List ℕ) → all_below 256 bs ≡ true → length bs ≡ 8 → (n : ℕ) → n ≡ number_by 256 bs → bytes_of n ≡ bs

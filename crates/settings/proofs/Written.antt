@@ -20,7 +20,7 @@ use Rattle.settings.specs.Command.{fault_of, together, kept, joined, recalled, l
 use Rattle.settings.specs.Laws.{Lasts, answer_of, read_by, Sound}
 use Rattle.settings.proofs.Accept.{Accepted, accepted, judged, success}
 use Rattle.settings.proofs.Rows.{low_at, high_at, fits_home, found, row_fits}
-use Rattle.settings.proofs.Held.{set_in, set_get, values-in, string-in, set_signals, power_in, five-strings, signals-in}
+use Rattle.settings.proofs.Held.{set_in, set_get, values_in, string_in, set_signals, power_in, five_strings, signals_in}
 use Rattle.settings.proofs.Strings.{signal_word}
 
 -- the answer of an outcome is the list that it was made of
@@ -66,26 +66,26 @@ eight : (ps : List ℕ) → length ps ≡ 9 → length (take 8 ps) ≡ 8
 eight ps nine = length-take-le 8 ps (omega (arith, nine))
 
 module _ (ps : List ℕ) (nine : length ps ≡ 9) (rules : sound_string (take 8 ps) ≡ true) where
-  string-codes : all_codes (take 8 ps) ≡ true
+  string_codes : all_codes (take 8 ps) ≡ true
   unfolding sound_string
-  string-codes = (both (all_codes (take 8 ps)) (padded (take 8 ps) && opens (take 8 ps)) rules).0
+  string_codes = (both (all_codes (take 8 ps)) (padded (take 8 ps) && opens (take 8 ps)) rules).0
 
-  pub string-back : unpacked (packed (take 8 ps)) ≡ take 8 ps
-  string-back = codes_packed (take 8 ps) (eight ps nine) string-codes
+  pub string_back : unpacked (packed (take 8 ps)) ≡ take 8 ps
+  string_back = codes_packed (take 8 ps) (eight ps nine) string_codes
 
-  string-fits : is_word (packed (take 8 ps)) ≡ true
-  string-fits = below (take 8 ps) (eight ps nine) string-codes
+  string_fits : is_word (packed (take 8 ps)) ≡ true
+  string_fits = below (take 8 ps) (eight ps nine) string_codes
 
 module _ (ps : List ℕ) (nine : length ps ≡ 9) (rules : sound_signal (take 8 ps) ≡ true) where
-  signal-codes : all_codes (take 8 ps) ≡ true
+  signal_codes : all_codes (take 8 ps) ≡ true
   unfolding sound_signal
-  signal-codes = (both (all_codes (take 8 ps)) (padded (take 8 ps)) rules).0
+  signal_codes = (both (all_codes (take 8 ps)) (padded (take 8 ps)) rules).0
 
-  pub signal-back : unpacked (packed (take 8 ps)) ≡ take 8 ps
-  signal-back = codes_packed (take 8 ps) (eight ps nine) signal-codes
+  pub signal_back : unpacked (packed (take 8 ps)) ≡ take 8 ps
+  signal_back = codes_packed (take 8 ps) (eight ps nine) signal_codes
 
-  signal-fits : is_signal (packed (take 8 ps)) ≡ true
-  signal-fits = signal_word (take 8 ps) (eight ps nine) signal-codes ∙ rules
+  signal_fits : is_signal (packed (take 8 ps)) ≡ true
+  signal_fits = signal_word (take 8 ps) (eight ps nine) signal_codes ∙ rules
 
 -- the place of an option is one of the settings'
 place_in : (i low high : ℕ) (w r : Bool) → fits_home (Value i low high) w r ≡ true → i < length options
@@ -94,16 +94,16 @@ place_in i low high w r f =
     ltb-true i (length options) (both (ltb i (length options)) (leb high 255) (both (ltb i (length options) && leb high 255) _ b).0).0
 
 module _ (s : Settings) (k : Calling) (c : Connection) (ps : List ℕ) (nine : length ps ≡ 9) (all : length s.values ≡ length options) (five : length k.strings ≡ 5) where
-  stored-values : (h : Home) (n : ℕ) (w r : Bool) → fits_home h w r ≡ true → w ≡ true → in_range h ps ≡ true → values_at (store s k c h n ps).settings (store s k c h n ps).calling (store s k c h n ps).connection h ≡ take (width h) ps
-  stored-values Version n w r f e i = absurd (false≢true (rw e at f))
-  stored-values (Linked last) n w r f e i = sym (two ps nine)
-  stored-values Unlinked n w r f e i = refl
-  stored-values (Value p low high) n w r f e i = rw (one ps nine, set_get s.values p (get_or ps 0 0) (rw all (place_in p low high w r f)))
-  stored-values String n w r f e i = string-back ps nine i
-  stored-values Power n w r f e i = sym (one ps nine)
-  stored-values (Signal p) n w r f e i = rw (set_get k.strings p (packed (take 8 ps)) (rw five (ltb-true p 5 (both r (ltb p 5) f).1))) (signal-back ps nine i)
-  stored-values Factory n w r f e i = refl
-  stored-values Nowhere n w r f e i = absurd (false≢true (rw e at f))
+  stored_values : (h : Home) (n : ℕ) (w r : Bool) → fits_home h w r ≡ true → w ≡ true → in_range h ps ≡ true → values_at (store s k c h n ps).settings (store s k c h n ps).calling (store s k c h n ps).connection h ≡ take (width h) ps
+  stored_values Version n w r f e i = absurd (false≢true (rw e at f))
+  stored_values (Linked last) n w r f e i = sym (two ps nine)
+  stored_values Unlinked n w r f e i = refl
+  stored_values (Value p low high) n w r f e i = rw (one ps nine, set_get s.values p (get_or ps 0 0) (rw all (place_in p low high w r f)))
+  stored_values String n w r f e i = string_back ps nine i
+  stored_values Power n w r f e i = sym (one ps nine)
+  stored_values (Signal p) n w r f e i = rw (set_get k.strings p (packed (take 8 ps)) (rw five (ltb-true p 5 (both r (ltb p 5) f).1))) (signal_back ps nine i)
+  stored_values Factory n w r f e i = refl
+  stored_values Nowhere n w r f e i = absurd (false≢true (rw e at f))
 
 -- a write answers under its own id
 own : (s : Settings) (k : Calling) (c : Connection) (h : Home) (r : Row) (ps : List ℕ) → row r.number ≡ r → r.home ≡ h → reading (store s k c h r.number ps) r ≡ numbers_at (store s k c h r.number ps).settings (store s k c h r.number ps).calling (store s k c h r.number ps).connection r
@@ -138,7 +138,7 @@ module _ (s : Settings) (k : Calling) (c : Connection) (count : ℕ) (fields : L
       let t = takes_can r.written (width r.home) a.n a.takes in
       let l : length (drop 2 fields) ≡ 9 = rw (length-drop, eleven) in
       let f = found id (defined Write id a.n a.takes) in
-      let v = stored-values s k c (drop 2 fields) l all five r.home r.number r.written r.read (row_fits id) t.0 a.inside in
+      let v = stored_values s k c (drop 2 fields) l all five r.home r.number r.written r.read (row_fits id) t.0 a.inside in
       rw (success s k c Write count fields ok, answer_outcome, own s k c r.home r (drop 2 fields) (ap row f) refl, v, values_long 0 (drop 2 fields) r.home l, f, a.number, ← t.1)
 
 -- 1 reads the connection
@@ -211,47 +211,47 @@ factory_calling_sound = refl
 
 module _ (s : Settings) (k : Calling) (c : Connection) (h : Sound s k c) where
   -- a value in range
-  set-sound : (i low high n : ℕ) (w r : Bool) → fits_home (Value i low high) w r ≡ true → between low high n ≡ true → sound_stand_in (with_value s i n) ≡ true → sound_settings (with_value s i n) ≡ true
+  set_sound : (i low high n : ℕ) (w r : Bool) → fits_home (Value i low high) w r ≡ true → between low high n ≡ true → sound_stand_in (with_value s i n) ≡ true → sound_settings (with_value s i n) ≡ true
   unfolding sound_settings
-  set-sound i low high n w r f b d =
+  set_sound i low high n w r f b d =
       let at = both (eqb low (low_at options i)) (eqb high (high_at options i)) (both (ltb i (length options) && leb high 255) _ (both r _ f).1).1 in
       let p : between (low_at options i) (high_at options i) n ≡ true = rw (← eqb-true low (low_at options i) at.0, ← eqb-true high (high_at options i) at.1) b in
-      rw (set_in options s.values i n (values-in s h.settings) p, d, string-in s h.settings)
+      rw (set_in options s.values i n (values_in s h.settings) p, d, string_in s h.settings)
 
-  string-sound : (ps : List ℕ) → length ps ≡ 9 → sound_string (take 8 ps) ≡ true → sound_stand_in (with_string s (packed (take 8 ps))) ≡ true → sound_settings (with_string s (packed (take 8 ps))) ≡ true
+  string_sound : (ps : List ℕ) → length ps ≡ 9 → sound_string (take 8 ps) ≡ true → sound_stand_in (with_string s (packed (take 8 ps))) ≡ true → sound_settings (with_string s (packed (take 8 ps))) ≡ true
   unfolding sound_settings
-  string-sound ps l r d = rw (values-in s h.settings, d, string-fits ps l r, string-back ps l r, r)
+  string_sound ps l r d = rw (values_in s h.settings, d, string_fits ps l r, string_back ps l r, r)
 
-  power-sound : (n : ℕ) → is_power n ≡ true → sound_calling (with_power k n) ≡ true
+  power_sound : (n : ℕ) → is_power n ≡ true → sound_calling (with_power k n) ≡ true
   unfolding sound_calling
-  power-sound n r = rw (r, five-strings k h.calling, signals-in k h.calling)
+  power_sound n r = rw (r, five_strings k h.calling, signals_in k h.calling)
 
-  signal-sound : (i : ℕ) (ps : List ℕ) → length ps ≡ 9 → sound_signal (take 8 ps) ≡ true → sound_calling (with_signal k i (packed (take 8 ps))) ≡ true
+  signal_sound : (i : ℕ) (ps : List ℕ) → length ps ≡ 9 → sound_signal (take 8 ps) ≡ true → sound_calling (with_signal k i (packed (take 8 ps))) ≡ true
   unfolding sound_calling
-  signal-sound i ps l r =
-      rw (power_in k h.calling, length-set k.strings i (packed (take 8 ps)), five-strings k h.calling, set_signals k.strings i (packed (take 8 ps)) (signals-in k h.calling) (signal-fits ps l r))
+  signal_sound i ps l r =
+      rw (power_in k h.calling, length-set k.strings i (packed (take 8 ps)), five_strings k h.calling, set_signals k.strings i (packed (take 8 ps)) (signals_in k h.calling) (signal_fits ps l r))
 
-  link-sound : (r : Row) (g : Home) (ps : List ℕ) → row r.number ≡ r → r.home ≡ g → sound_link g (store s k c g r.number ps).connection.port (store s k c g r.number ps).connection.speed ≡ true → (store s k c g r.number ps).connection.mode ≡ r.number → sound_connection (store s k c g r.number ps).connection ≡ true
+  link_sound : (r : Row) (g : Home) (ps : List ℕ) → row r.number ≡ r → r.home ≡ g → sound_link g (store s k c g r.number ps).connection.port (store s k c g r.number ps).connection.speed ≡ true → (store s k c g r.number ps).connection.mode ≡ r.number → sound_connection (store s k c g r.number ps).connection ≡ true
   unfolding sound_connection
-  link-sound r g ps e f p q = rw (q, e, f) p
+  link_sound r g ps e f p q = rw (q, e, f) p
 
-  store-sound : (r : Row) (g : Home) (ps : List ℕ) → row r.number ≡ r → r.home ≡ g → fits_home g r.written r.read ≡ true → length ps ≡ 9 → in_range g ps ≡ true → sound_stand_in (store s k c g r.number ps).settings ≡ true → Sound (store s k c g r.number ps).settings (store s k c g r.number ps).calling (store s k c g r.number ps).connection
-  store-sound r Version ps e f t l i d = h
-  store-sound r (Linked last) ps e f t l i d = record { settings = h.settings; connection = link-sound r (Linked last) ps e f i refl; calling = h.calling }
-  store-sound r Unlinked ps e f t l i d = record { settings = h.settings; connection = link-sound r Unlinked ps e f refl refl; calling = h.calling }
-  store-sound r (Value p low high) ps e f t l i d = record { settings = set-sound p low high (get_or ps 0 0) r.written r.read t i d; connection = h.connection; calling = h.calling }
-  store-sound r String ps e f t l i d = record { settings = string-sound ps l i d; connection = h.connection; calling = h.calling }
-  store-sound r Power ps e f t l i d = record { settings = h.settings; connection = h.connection; calling = power-sound (get_or ps 0 0) i }
-  store-sound r (Signal p) ps e f t l i d = record { settings = h.settings; connection = h.connection; calling = signal-sound p ps l i }
-  store-sound r Factory ps e f t l i d = record { settings = factory_sound; connection = h.connection; calling = factory_calling_sound }
-  store-sound r Nowhere ps e f t l i d = h
+  store_sound : (r : Row) (g : Home) (ps : List ℕ) → row r.number ≡ r → r.home ≡ g → fits_home g r.written r.read ≡ true → length ps ≡ 9 → in_range g ps ≡ true → sound_stand_in (store s k c g r.number ps).settings ≡ true → Sound (store s k c g r.number ps).settings (store s k c g r.number ps).calling (store s k c g r.number ps).connection
+  store_sound r Version ps e f t l i d = h
+  store_sound r (Linked last) ps e f t l i d = record { settings = h.settings; connection = link_sound r (Linked last) ps e f i refl; calling = h.calling }
+  store_sound r Unlinked ps e f t l i d = record { settings = h.settings; connection = link_sound r Unlinked ps e f refl refl; calling = h.calling }
+  store_sound r (Value p low high) ps e f t l i d = record { settings = set_sound p low high (get_or ps 0 0) r.written r.read t i d; connection = h.connection; calling = h.calling }
+  store_sound r String ps e f t l i d = record { settings = string_sound ps l i d; connection = h.connection; calling = h.calling }
+  store_sound r Power ps e f t l i d = record { settings = h.settings; connection = h.connection; calling = power_sound (get_or ps 0 0) i }
+  store_sound r (Signal p) ps e f t l i d = record { settings = h.settings; connection = h.connection; calling = signal_sound p ps l i }
+  store_sound r Factory ps e f t l i d = record { settings = factory_sound; connection = h.connection; calling = factory_calling_sound }
+  store_sound r Nowhere ps e f t l i d = h
 
   -- what a command without error leaves
-  pub obey-sound : (v : Verb) (t : Takes) (id : ℕ) (fields : List ℕ) → length fields ≡ 11 → ((row id).home ≡ Nowhere → ⊥) → Accepted t v (row id) fields → together v (obey s k c v (row id) (drop 2 fields)).settings ≡ true
+  pub obey_sound : (v : Verb) (t : Takes) (id : ℕ) (fields : List ℕ) → length fields ≡ 11 → ((row id).home ≡ Nowhere → ⊥) → Accepted t v (row id) fields → together v (obey s k c v (row id) (drop 2 fields)).settings ≡ true
       → Sound (obey s k c v (row id) (drop 2 fields)).settings (obey s k c v (row id) (drop 2 fields)).calling (obey s k c v (row id) (drop 2 fields)).connection
-  obey-sound Write t id fields l d a i = store-sound (row id) (row id).home (drop 2 fields) (ap row (found id d)) refl (row_fits id) (rw (length-drop, l)) a.inside i
-  obey-sound Read t id fields l d a i = h
-  obey-sound Other t id fields l d a i = h
+  obey_sound Write t id fields l d a i = store_sound (row id) (row id).home (drop 2 fields) (ap row (found id d)) refl (row_fits id) (rw (length-drop, l)) a.inside i
+  obey_sound Read t id fields l d a i = h
+  obey_sound Other t id fields l d a i = h
 
   -- under any command
   pub stays : (v : Verb) (count : ℕ) (fields : List ℕ) → length fields ≡ 11 → Sound (commanded s k c v count fields).stored.settings (commanded s k c v count fields).stored.calling (commanded s k c v count fields).stored.connection
@@ -263,7 +263,7 @@ module _ (s : Settings) (k : Calling) (c : Connection) (h : Sound s k c) where
           let i = get_or fields 0 0 in
           let j = judged (fault_of v (row i) count fields) (together v (obey s k c v (row i) (drop 2 fields)).settings) e in
           let a = accepted v (row i) count fields j.0 in
-          obey-sound v _ i fields l (defined v i a.n a.takes) a j.1
+          obey_sound v _ i fields l (defined v i a.n a.takes) a j.1
       go fault.Type e = h
       go fault.Id e = h
       go fault.Parameters e = h
@@ -289,9 +289,9 @@ module _ (s : Settings) (k : Calling) (c : Connection) where
   store_by P a b d Nowhere n ps = a s
 
   -- and so is what any command does
-  commanded-by : (P : Stored → Type 0) → ((s' : Settings) → P (kept s' k c)) → ((c' : Connection) → P (joined s k c')) → ((s' : Settings) (k' : Calling) → P (recalled s' k' c)) → (v : Verb) (count : ℕ) (fields : List ℕ) → P (commanded s k c v count fields).stored
+  commanded_by : (P : Stored → Type 0) → ((s' : Settings) → P (kept s' k c)) → ((c' : Connection) → P (joined s k c')) → ((s' : Settings) (k' : Calling) → P (recalled s' k' c)) → (v : Verb) (count : ℕ) (fields : List ℕ) → P (commanded s k c v count fields).stored
   unfolding commanded
-  commanded-by P a b d v count fields = go (wrong s k c v count fields)
+  commanded_by P a b d v count fields = go (wrong s k c v count fields)
     where
       obeyed : (v : Verb) → P (obey s k c v (row (get_or fields 0 0)) (drop 2 fields))
       obeyed Write = store_by P a b d (row (get_or fields 0 0)).home (row (get_or fields 0 0)).number (drop 2 fields)
@@ -307,9 +307,9 @@ module _ (s : Settings) (k : Calling) (c : Connection) where
       go fault.Range = a s
 
   -- no other command touches the connection
-  pub commanded-keeps : (v : Verb) (count : ℕ) (fields : List ℕ) → Keeps c (commanded s k c v count fields).stored
-  commanded-keeps = commanded-by (Keeps c) (λ s' e. refl) (λ c' e. absurd (true≢false e)) (λ s' k' e. refl)
+  pub commanded_keeps : (v : Verb) (count : ℕ) (fields : List ℕ) → Keeps c (commanded s k c v count fields).stored
+  commanded_keeps = commanded_by (Keeps c) (λ s' e. refl) (λ c' e. absurd (true≢false e)) (λ s' k' e. refl)
 
   -- where nothing is forgotten, how a station is called and the connection stay
-  pub commanded-lasts : (v : Verb) (count : ℕ) (fields : List ℕ) → Lasts k c (commanded s k c v count fields).stored
-  commanded-lasts = commanded-by (Lasts k c) (λ s' e. (refl, refl, refl)) (λ c' e. absurd (true≢false e)) (λ s' k' e. absurd (true≢false e))
+  pub commanded_lasts : (v : Verb) (count : ℕ) (fields : List ℕ) → Lasts k c (commanded s k c v count fields).stored
+  commanded_lasts = commanded_by (Lasts k c) (λ s' e. (refl, refl, refl)) (λ c' e. absurd (true≢false e)) (λ s' k' e. absurd (true≢false e))

@@ -67,9 +67,9 @@ module _ (s : State) where
   abbrev pub bytes : List ℕ
   bytes = filled (string_bytes s.settings) (column_bytes s.sender.held.column) (stage_bytes s.reader.stage) (run_bytes s.motor.run) (heard_bytes s.motor) (signals_bytes s.calling)
 
-  pub filled-spelt : bytes ≡ spelt s
+  pub filled_spelt : bytes ≡ spelt s
   unfolding spelt
-  filled-spelt = go (string_bytes s.settings) _ _ _ (heard_bytes s.motor) (signals_bytes s.calling) (eight s.settings) (two s.sender.held.column) (four s.reader.stage) (two_run s.motor.run) (eight_heard s.motor) (forty s.calling)
+  filled_spelt = go (string_bytes s.settings) _ _ _ (heard_bytes s.motor) (signals_bytes s.calling) (eight s.settings) (two s.sender.held.column) (four s.reader.stage) (two_run s.motor.run) (eight_heard s.motor) (forty s.calling)
     where
       go : (x y z r h w : List ℕ) → Has 8 x → Has 2 y → Has 4 z → Has 2 r → Has 8 h → Has 40 w → filled x y z r h w ≡ laid x y z r h w
       go x y z r h w e f g i j k = rw (← e, ← f, ← g, ← i, ← j, ← k)
@@ -86,7 +86,7 @@ module _ (s : State) where
       → h ≡ puts (set g 39 s.calling.power) 64 (signals_bytes s.calling)
       → i ≡ puts (puts h 44 (run_bytes s.motor.run)) 56 (heard_bytes s.motor)
       → i ≡ spelt s
-  put_all p q r t u v w x = rw (x, w, v, u, t, r, q, p) filled-spelt
+  put_all p q r t u v w x = rw (x, w, v, u, t, r, q, p) filled_spelt
 
   -- and bytes that are it are 128
   pub as_long : (b : List ℕ) → b ≡ spelt s → length b ≡ 128

@@ -12,7 +12,7 @@ use lib.ListN.{length, get_or}
 use Rattle.settings.specs.Table.{options}
 use Rattle.word.specs.Word.{number_by, is_word}
 use Rattle.word.proofs.Words.{bytes_back}
-use Rattle.settings.proofs.Held.{length_in, values-in, string_word, five-strings, each_word}
+use Rattle.settings.proofs.Held.{length_in, values_in, string_word, five_strings, each_word}
 use Rattle.motor.specs.Motor.{sound_run, sound_motor}
 use Rattle.step.specs.State.{sound}
 use Rattle.step.proofs.Stays.{sound_parts}
@@ -139,10 +139,10 @@ sound_formed s h =
     let p = sound_parts s h in
     let m = motor_fits s.motor p.motor in
     record {
-      seven = length_in options s.settings.values (values-in s.settings p.held.settings);
+      seven = length_in options s.settings.values (values_in s.settings p.held.settings);
       word = word_fits s.settings.string (string_word s.settings p.held.settings);
       eleven = p.eleven;
-      five = five-strings s.calling p.held.calling;
+      five = five_strings s.calling p.held.calling;
       words = λ (i : ℕ). word_fits (get_or s.calling.strings i 0) (each_word s.calling p.held.calling i);
       heard = m.0;
       run = m.1;

@@ -14,12 +14,12 @@ use Rattle.step.specs.Names.{State, Took}
 use Rattle.step.specs.Byte.{Puts}
 
 module _ (after : State) (ns old now : List ℕ) (made : ℕ) (m : Made ns old now made) where
-  made-fits : ltb 0 made ≡ leb (length (framed ns)) (length old)
-  made-fits = rw m.counted (go (leb (length (framed ns)) (length old)))
+  made_fits : ltb 0 made ≡ leb (length (framed ns)) (length old)
+  made_fits = rw m.counted (go (leb (length (framed ns)) (length old)))
     where
       go : (b : Bool) → ltb 0 (cond b (length (framed ns)) 0) ≡ b
       go true = lt-ltb 0 (length (framed ns)) (omega arith)
       go false = refl
 
-  pub made-puts : Puts after (framed ns) old now (record { fits = ltb 0 made; state = after; count = made })
-  made-puts = record { fits = made-fits; state = refl; count = rw made-fits m.counted; places = rw made-fits m.contents }
+  pub made_puts : Puts after (framed ns) old now (record { fits = ltb 0 made; state = after; count = made })
+  made_puts = record { fits = made_fits; state = refl; count = rw made_fits m.counted; places = rw made_fits m.contents }

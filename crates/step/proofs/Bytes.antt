@@ -17,8 +17,8 @@ puts_none s old = record { fits = sym (leb-zero (length old)); state = refl; cou
 
 module _ (t : Stream) (x : Step) (r : Took) (old₁ old₂ now : List ℕ) where
   -- nothing for the second buffer
-  pub offers-first : second_of t x ≡ [] → Puts x.state (first_of t x) old₁ now r → Offers t x old₁ old₂ now old₂ (in_first r)
-  offers-first e p = record {
+  pub offers_first : second_of t x ≡ [] → Puts x.state (first_of t x) old₁ now r → Offers t x old₁ old₂ now old₂ (in_first r)
+  offers_first e p = record {
     fits = rw (e, leb-zero, and-true) p.fits;
     state = p.state;
     first = p.count;
@@ -28,8 +28,8 @@ module _ (t : Stream) (x : Step) (r : Took) (old₁ old₂ now : List ℕ) where
   }
 
   -- nothing for the first buffer
-  pub offers-second : first_of t x ≡ [] → Puts x.state (second_of t x) old₂ now r → Offers t x old₁ old₂ old₁ now (in_second r)
-  offers-second e p = record {
+  pub offers_second : first_of t x ≡ [] → Puts x.state (second_of t x) old₂ now r → Offers t x old₁ old₂ old₁ now (in_second r)
+  offers_second e p = record {
     fits = rw (e, leb-zero) p.fits;
     state = p.state;
     first = rw e (sym (either_way r.fits 0));

@@ -57,13 +57,13 @@ hosted_said s fields (Finished v n) h = absurd (h v n refl)
 -- While nothing is heard.
 
 module _ (s : State) (ws : List Wanted) (e : listens s.calling s.connection ≡ false) where
-  pub deaf-motor : motor_after s ws ≡ s.motor
+  pub deaf_motor : motor_after s ws ≡ s.motor
   unfolding motor_after
-  deaf-motor = rw e
+  deaf_motor = rw e
 
-  pub deaf-told : told_of s ws ≡ []
+  pub deaf_told : told_of s ws ≡ []
   unfolding told_of
-  deaf-told = rw e
+  deaf_told = rw e
 
 -- Two items.
 
@@ -104,9 +104,9 @@ module _ (s : State) (x y : Conversion) (e : listens s.calling s.connection ≡ 
   abbrev last : Motor
   last = hearing_all k then (codes_asked (wanted_of y))
 
-  both-motor : last ≡ motor_after s (wanted_of x ++ wanted_of y)
+  both_motor : last ≡ motor_after s (wanted_of x ++ wanted_of y)
   unfolding motor_after
-  both-motor = rw (e, codes_append (wanted_of x) (wanted_of y)) (sym (hearing_append k s.motor (codes_asked (wanted_of x)) (codes_asked (wanted_of y))))
+  both_motor = rw (e, codes_append (wanted_of x) (wanted_of y)) (sym (hearing_append k s.motor (codes_asked (wanted_of x)) (codes_asked (wanted_of y))))
 
   both_told : change s.connection.port (powered s.motor) (powered then) ++ change s.connection.port (powered then) (powered last) ≡ told_of s (wanted_of x ++ wanted_of y)
   unfolding told_of
@@ -116,12 +116,12 @@ module _ (s : State) (x y : Conversion) (e : listens s.calling s.connection ≡ 
       let f : changes k port then ys ≡ change port (powered then) (powered last) = ap (λ (cs : List ℕ). changes k port then cs) (sym (append-nil ys)) ∙ item_changes k port then y [] ∙ append-nil _ in
       rw (e, codes_append (wanted_of x) (wanted_of y)) (sym (item_changes k port s.motor x ys ∙ ap (λ (cs : List ℕ). change port (powered s.motor) (powered then) ++ cs) f))
 
-  few-port : s.connection.port < 10
+  few_port : s.connection.port < 10
   unfolding listens
-  few-port = omega (arith, ltb-true s.connection.port 4 (both (not (eqb s.calling.power 0)) (ltb s.connection.port 4) e).1)
+  few_port = omega (arith, ltb-true s.connection.port 4 (both (not (eqb s.calling.power 0)) (ltb s.connection.port 4) e).1)
 
-  pub heard-both : Hears s (wanted_of x ++ wanted_of y) (heard_both s.calling s.connection.port s.motor x y)
-  heard-both = record { motor = both-motor; tells = both_told; port = few-port; between = few_powered then; after = few_powered last }
+  pub heard_both_law : Hears s (wanted_of x ++ wanted_of y) (heard_both s.calling s.connection.port s.motor x y)
+  heard_both_law = record { motor = both_motor; tells = both_told; port = few_port; between = few_powered then; after = few_powered last }
 
 -- Text of two bytes at most.
 

@@ -8,7 +8,7 @@ use mathlib.Core.List.{List, [], ◌∷◌}
 use Rattle.command.specs.Read.{read}
 use Rattle.settings.specs.Command.{commanded}
 use Rattle.settings.specs.Laws.{Lasts}
-use Rattle.settings.proofs.Written.{Keeps, commanded-keeps, commanded-lasts}
+use Rattle.settings.proofs.Written.{Keeps, commanded_keeps, commanded_lasts}
 use Rattle.code.specs.Kinds.{kind_of}
 use Rattle.sender.specs.Reading.{read_case}
 use Rattle.sender.specs.Item.{wanted}
@@ -19,33 +19,33 @@ use Rattle.step.specs.State.{fresh_box, with_reader, with_incoming, with_stored}
 use Rattle.step.specs.Hear.{listens, motor_after}
 use Rattle.step.specs.Step.{text, hosted, lined, tued, step, Event, run}
 use Rattle.step.specs.Laws.{heeds, Rested}
-use Rattle.step.proofs.Hearing.{none_heard, deaf-motor}
+use Rattle.step.proofs.Hearing.{none_heard, deaf_motor}
 use Rattle.step.proofs.Ways.{lined_touches, tued_touches}
 
 -- The motor at rest.
 
 -- where nothing is heard, what is asked for leaves the motor as it was
 module _ (s : State) (e : heeds s.calling s.connection ≡ false) where
-  text-dropped : (o : Settings) (k : Route) (bs : List ℕ) → is_printer k ≡ false → text o k bs ≡ []
-  text-dropped o Dropped bs h = refl
-  text-dropped o ToPrinter bs h = absurd (true≢false h)
-  text-dropped o ToHost bs h = refl
-  text-dropped o ToTu bs h = refl
+  text_dropped : (o : Settings) (k : Route) (bs : List ℕ) → is_printer k ≡ false → text o k bs ≡ []
+  text_dropped o Dropped bs h = refl
+  text_dropped o ToPrinter bs h = absurd (true≢false h)
+  text_dropped o ToHost bs h = refl
+  text_dropped o ToTu bs h = refl
 
-  text-unheard : (bs : List ℕ) → motor_after s (text s.settings (route s.connection Host) bs) ≡ s.motor
-  text-unheard bs = go (listens s.calling s.connection) refl (is_printer (route s.connection Host)) refl
+  text_unheard : (bs : List ℕ) → motor_after s (text s.settings (route s.connection Host) bs) ≡ s.motor
+  text_unheard bs = go (listens s.calling s.connection) refl (is_printer (route s.connection Host)) refl
     where
       go : (a : Bool) → listens s.calling s.connection ≡ a → (b : Bool) → is_printer (route s.connection Host) ≡ b
           → motor_after s (text s.settings (route s.connection Host) bs) ≡ s.motor
-      go false f b g = deaf-motor s (text s.settings (route s.connection Host) bs) f
+      go false f b g = deaf_motor s (text s.settings (route s.connection Host) bs) f
       go true f true g = absurd (true≢false (rw (f, g) at e))
-      go true f false g = rw (text-dropped s.settings (route s.connection Host) bs g) (none_heard s)
+      go true f false g = rw (text_dropped s.settings (route s.connection Host) bs g) (none_heard s)
 
-  code-unheard : (ws : List Wanted) → route s.connection Tu ≡ ToPrinter → motor_after s ws ≡ s.motor
-  code-unheard ws f = go (listens s.calling s.connection) refl (is_printer (route s.connection Host)) refl
+  code_unheard : (ws : List Wanted) → route s.connection Tu ≡ ToPrinter → motor_after s ws ≡ s.motor
+  code_unheard ws f = go (listens s.calling s.connection) refl (is_printer (route s.connection Host)) refl
     where
       go : (a : Bool) → listens s.calling s.connection ≡ a → (b : Bool) → is_printer (route s.connection Host) ≡ b → motor_after s ws ≡ s.motor
-      go false g b h = deaf-motor s ws g
+      go false g b h = deaf_motor s ws g
       go true g true h = absurd (true≢false (rw (g, h) at e))
       go true g false h = absurd (true≢false (rw (g, h, f) at e))
 
@@ -68,12 +68,12 @@ stored_rested s t k h r = record {
 
 hosted_rested : (s : State) (fields : List ℕ) (out : Out) → Rested s → Rested (hosted s fields out).state
 hosted_rested s fields Nothing r = r
-hosted_rested s fields (One b) r = record { reading = r.reading; incoming = r.incoming; motor = λ e. text-unheard s e (b ∷ []) ∙ r.motor e }
-hosted_rested s fields (Two b) r = record { reading = r.reading; incoming = r.incoming; motor = λ e. text-unheard s e (47 ∷ b ∷ []) ∙ r.motor e }
+hosted_rested s fields (One b) r = record { reading = r.reading; incoming = r.incoming; motor = λ e. text_unheard s e (b ∷ []) ∙ r.motor e }
+hosted_rested s fields (Two b) r = record { reading = r.reading; incoming = r.incoming; motor = λ e. text_unheard s e (47 ∷ b ∷ []) ∙ r.motor e }
 hosted_rested s fields (Finished v count) r =
     let k = s.calling in
     let c = s.connection in
-    stored_rested s (commanded s.settings k c v count fields).stored (commanded-keeps s.settings k c v count fields) (commanded-lasts s.settings k c v count fields) r
+    stored_rested s (commanded s.settings k c v count fields).stored (commanded_keeps s.settings k c v count fields) (commanded_lasts s.settings k c v count fields) r
 
 lined_rested : (k : Route) (s : State) (c : ℕ) → route s.connection Line ≡ k → Rested s → Rested (lined k s c).state
 lined_rested Dropped s c e r = r
@@ -86,7 +86,7 @@ tued_rested Dropped s c e r = r
 tued_rested ToPrinter s c e r = record {
   reading = r.reading;
   incoming = λ h. absurd (h e);
-  motor = λ f. code-unheard (with_incoming s (read_case s.settings s.incoming (kind_of c))) f (wanted s.incoming c ∷ []) e ∙ r.motor f;
+  motor = λ f. code_unheard (with_incoming s (read_case s.settings s.incoming (kind_of c))) f (wanted s.incoming c ∷ []) e ∙ r.motor f;
 }
 tued_rested ToHost s c e r = r
 tued_rested ToTu s c e r = r

@@ -28,17 +28,17 @@ putting s line host = record { state = s; line = line; host = host; tu = [] }
 
 module _ (s : State) (line host old₁ old₂ : List ℕ) where
   -- what does not fit the line buffer
-  pub line-full : length old₁ < length line → Offers Host (putting s line host) old₁ old₂ old₁ old₂ (in_first (no_room s))
-  line-full h = record { fits = rw (lt-leb (length line) (length old₁) h); state = refl; first = refl; second = refl; one = refl; two = refl }
+  pub line_full : length old₁ < length line → Offers Host (putting s line host) old₁ old₂ old₁ old₂ (in_first (no_room s))
+  line_full h = record { fits = rw (lt-leb (length line) (length old₁) h); state = refl; first = refl; second = refl; one = refl; two = refl }
 
   -- or the host buffer
-  pub host-full : length old₂ < length host → Offers Host (putting s line host) old₁ old₂ old₁ old₂ (in_first (no_room s))
-  host-full h = record { fits = rw (lt-leb (length host) (length old₂) h, and-false (leb (length line) (length old₁))); state = refl; first = refl; second = refl; one = refl; two = refl }
+  pub host_full : length old₂ < length host → Offers Host (putting s line host) old₁ old₂ old₁ old₂ (in_first (no_room s))
+  host_full h = record { fits = rw (lt-leb (length host) (length old₂) h, and-false (leb (length line) (length old₁))); state = refl; first = refl; second = refl; one = refl; two = refl }
 
   -- what fits both
-  pub both-fit : (now₁ now₂ : List ℕ) (end told : ℕ) → length line ≤ length old₁ → Put old₁ 0 line now₁ end → Filled old₂ now₂ host told
+  pub both_fit : (now₁ now₂ : List ℕ) (end told : ℕ) → length line ≤ length old₁ → Put old₁ 0 line now₁ end → Filled old₂ now₂ host told
       → Offers Host (putting s line host) old₁ old₂ now₁ now₂ (record { state = s; first = end; second = told; fits = true })
-  both-fit now₁ now₂ end told h p f = record {
+  both_fit now₁ now₂ end told h p f = record {
     fits = rw (le-leb (length line) (length old₁) h, le-leb (length host) (length old₂) (omega (arith, f.count, f.room)));
     state = refl;
     first = rw zero-add at p.place;
@@ -57,12 +57,12 @@ made d old now x f = rw (f.places.places, f.places.count) (take-append_seam d.co
 
 module _ (s : State) (room codes : List ℕ) (x : Sent) (wide : length room ≡ 36) (h : Heard) (old₁ old₂ now₁ now₂ : List ℕ) (r : Taken) where
   -- host text
-  pub text-put : (bs : List ℕ) → length bs ≤ 2
+  pub text_put : (bs : List ℕ) → length bs ≤ 2
       → SendsRun (run_of s.settings s.sender Text Never bs (length room)) room codes x
       → Hears s (wanted_text s.settings bs) h
       → Offers Host (putting (with_motor (with_sender s x.sender) h.motor) (take x.count codes) (tells h)) old₁ old₂ now₁ now₂ r
       → Offers Host (sends s (wanted_text s.settings bs)) old₁ old₂ now₁ now₂ r
-  text-put bs few f g p =
+  text_put bs few f g p =
       let e = text_run s.settings s.sender bs (length room) (omega (arith, few, wide)) in
       let a : x.sender ≡ after_items s.settings s.sender (wanted_text s.settings bs) = ap (λ (u : Sent). u.sender) f.gives ∙ ap (λ (u : Run). u.sender) e in
       let m : take x.count codes ≡ items s.settings s.sender (wanted_text s.settings bs) = made _ room codes x f ∙ ap (λ (u : Run). u.codes) e in

@@ -17,8 +17,8 @@ pub record Packs (cs : List ℕ) (i n : ℕ) : Type 0 where
   pub small : n + 9 ≤ 9 * 32 ^ (8 - i)
 
 module _ (cs : List ℕ) (eight : length cs ≡ 8) where
-  pub none-packed : Packs cs 8 0
-  none-packed = record { within = lit≤ tt; word = rw (drop_of_length-le cs {i = 8} (omega (arith, eight))); small = lit≤ tt }
+  pub none_packed : Packs cs 8 0
+  none_packed = record { within = lit≤ tt; word = rw (drop_of_length-le cs {i = 8} (omega (arith, eight))); small = lit≤ tt }
 
   module _ (i n : ℕ) (p : Packs cs i n) where
     -- there is room for one code more
@@ -28,8 +28,8 @@ module _ (cs : List ℕ) (eight : length cs ≡ 8) where
         omega (arith, p.small, pow-le-pow_right {n = 32} (lit≤ tt) h)
 
     -- the code before them, below the others
-    pub one-packed : (m : ℕ) → 0 < i → m ≡ get_or cs (i - 1) 0 + 32 * n → m < 256 + 32 * n → Packs cs (i - 1) m
-    one-packed m l e b =
+    pub one_packed : (m : ℕ) → 0 < i → m ≡ get_or cs (i - 1) 0 + 32 * n → m < 256 + 32 * n → Packs cs (i - 1) m
+    one_packed m l e b =
         let here : suc (i - 1) ≡ i = omega arith in
         let more : 8 - (i - 1) ≡ suc (8 - i) = omega (arith, p.within) in
         let inside : i - 1 < length cs = omega (arith, p.within, eight) in

@@ -14,14 +14,14 @@ use Rattle.word.specs.Word.{digits_by, number_by, all_below, unpacked, packed, i
 
 module _ (base : ℕ) (some : 0 < base) where
   -- as many digits as asked for
-  pub digits-length : (k n : ℕ) → length (digits_by base k n) ≡ k
-  digits-length zero n = refl
-  digits-length (suc k) n = ap suc (digits-length k (n / base))
+  pub digits_length : (k n : ℕ) → length (digits_by base k n) ≡ k
+  digits_length zero n = refl
+  digits_length (suc k) n = ap suc (digits_length k (n / base))
 
   -- none
-  pub digits-none : (k n : ℕ) → k ≤ 0 → digits_by base k n ≡ []
-  digits-none zero n h = refl
-  digits-none (suc k) n h = absurd (omega (arith, h))
+  pub digits_none : (k n : ℕ) → k ≤ 0 → digits_by base k n ≡ []
+  digits_none zero n h = refl
+  digits_none (suc k) n h = absurd (omega (arith, h))
 
   -- the lowest one, and the others above it
   pub digits_more : (k n : ℕ) → 0 < k → digits_by base k n ≡ n % base ∷ digits_by base (k - 1) (n / base)
@@ -29,9 +29,9 @@ module _ (base : ℕ) (some : 0 < base) where
   digits_more (suc k) n h = let e : suc k - 1 ≡ k = omega arith in rw e
 
   -- each below the base
-  pub digits-below : (k n : ℕ) → all_below base (digits_by base k n) ≡ true
-  digits-below zero n = refl
-  digits-below (suc k) n = rw (lt-ltb (n % base) base (mod-lt n some), digits-below k (n / base))
+  pub digits_below : (k n : ℕ) → all_below base (digits_by base k n) ≡ true
+  digits_below zero n = refl
+  digits_below (suc k) n = rw (lt-ltb (n % base) base (mod-lt n some), digits_below k (n / base))
 
   -- digits, made a number and taken again
   pub digits_number : (ds : List ℕ) → all_below base ds ≡ true → digits_by base (length ds) (number_by base ds) ≡ ds
@@ -52,12 +52,12 @@ module _ (base : ℕ) (some : 0 < base) where
   number_digits (suc k) n h = rw (number_digits k (n / base) (fewer k n h)) (mod-add-div n base)
 
   -- so many digits make no greater number
-  pub number-below : (ds : List ℕ) → all_below base ds ≡ true → number_by base ds < base ^ length ds
-  number-below [] h = omega (arith, pow-zero base)
-  number-below (d ∷ ds) h =
+  pub number_below : (ds : List ℕ) → all_below base ds ≡ true → number_by base ds < base ^ length ds
+  number_below [] h = omega (arith, pow-zero base)
+  number_below (d ∷ ds) h =
       let b = both (ltb d base) (all_below base ds) h in
       let n = number_by base ds in
-      omega (arith, ltb-true d base b.0, pow-succ' base (length ds), mul-suc base n, mul-le-mul_left base (number-below ds b.1))
+      omega (arith, ltb-true d base b.0, pow-succ' base (length ds), mul-suc base n, mul-le-mul_left base (number_below ds b.1))
 
 -- Strings and words.
 
@@ -71,7 +71,7 @@ packed_codes n h = number_digits 32 (omega arith) 8 n (ltb-true n 1099511627776 
 
 -- eight codes make a word
 pub below : (cs : List ℕ) → length cs ≡ 8 → all_below 32 cs ≡ true → is_word (packed cs) ≡ true
-below cs e h = lt-ltb (packed cs) 1099511627776 (subst (λ (k : ℕ). packed cs < 32 ^ k) e (number-below 32 (omega arith) cs h))
+below cs e h = lt-ltb (packed cs) 1099511627776 (subst (λ (k : ℕ). packed cs < 32 ^ k) e (number_below 32 (omega arith) cs h))
 
 -- a number of 64 bits, its bytes taken and made a number again
 pub bytes_back : (n : ℕ) → n < 18446744073709551616 → number_by 256 (bytes_of n) ≡ n

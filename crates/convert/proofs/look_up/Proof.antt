@@ -9,7 +9,7 @@ use lib.ListN.{length}
 use borrow.Author.Rules.{rules}
 use Rattle.code.specs.Rows.{letters, figures}
 use Rattle.code.specs.Convert.{capital, place_in}
-use Rattle.convert.proofs.Search.{in_letters, in-figures, in-neither}
+use Rattle.convert.proofs.Search.{in_letters, in_figures, in_neither}
 use Rattle.convert.proofs.look_up.Statement.{statement}
 use Rattle.convert.proofs.look_up.Tie as tie
 
@@ -43,10 +43,10 @@ found-requires-2 : tie.Need-found-requires-2
 found-requires-2 c κs = search rules
 
 returns-2 : tie.Need-returns-2
-returns-2 c = c.found2.ensures ∙ in-figures _ _ (place c.before.before.before) (search rules) (search rules)
+returns-2 c = c.found2.ensures ∙ in_figures _ _ (place c.before.before.before) (search rules) (search rules)
 
 returns-3 : tie.Need-returns-3
-returns-3 c = in-neither _ _ (place c.before.before) (search rules)
+returns-3 c = in_neither _ _ (place c.before.before) (search rules)
 
 pub look-up-spec : {M : Type 1} → statement M
 look-up-spec =

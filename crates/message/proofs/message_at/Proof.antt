@@ -2,7 +2,7 @@
 -- Assumes nothing.
 use mathlib.Core.Path.{sym, ◌∙◌}
 use borrow.Author.Rules.{rules}
-use Rattle.message.proofs.Turns.{crlf-room, mark-room, begun, no_start, no-mark}
+use Rattle.message.proofs.Turns.{crlf_room, mark_room, begun, no_start, no_mark}
 use Rattle.message.proofs.message_at.Statement.{statement}
 use Rattle.message.proofs.message_at.Tie as tie
 
@@ -19,13 +19,13 @@ slice-aggregate-starts-at-2 : tie.Need-slice-aggregate-starts-at-2
 slice-aggregate-starts-at-2 c = search rules
 
 starts-at-requires-2 : tie.Need-starts-at-requires-2
-starts-at-requires-2 c κs = let a = c.before.before.before.before.before.args in crlf-room a.s.now a.at (sym c.before.before.starts-at.ensures ∙ c.before.if1.true)
+starts-at-requires-2 c κs = let a = c.before.before.before.before.before.args in crlf_room a.s.now a.at (sym c.before.before.starts-at.ensures ∙ c.before.if1.true)
 
 add-numbers-at : tie.Need-overflow-add-numbers-at
 add-numbers-at c = search rules
 
 numbers-at-requires : tie.Need-numbers-at-requires
-numbers-at-requires c κs = let a = c.before.before.before.before.before.before.before.args in mark-room a.s.now a.at (sym c.before.starts-at2.ensures ∙ c.if2.true)
+numbers-at-requires c κs = let a = c.before.before.before.before.before.before.before.args in mark_room a.s.now a.at (sym c.before.starts-at2.ensures ∙ c.if2.true)
 
 returns : tie.Need-returns
 returns c =
@@ -34,7 +34,7 @@ returns c =
     ∙ begun a.s.now a.at (sym started.starts-at.ensures ∙ marked.before.before.if1.true) (sym marked.starts-at2.ensures ∙ c.before.if2.true)
 
 returns-2 : tie.Need-returns-2
-returns-2 c = let a = c.before.before.before.before.before.before.before.args in no-mark a.s.now a.at (sym c.before.starts-at2.ensures ∙ c.if2.false)
+returns-2 c = let a = c.before.before.before.before.before.before.before.args in no_mark a.s.now a.at (sym c.before.starts-at2.ensures ∙ c.if2.false)
 
 returns-3 : tie.Need-returns-3
 returns-3 c = let a = c.before.before.before.before.args in no_start a.s.now a.at (sym c.before.starts-at.ensures ∙ c.if1.false)

@@ -1,12 +1,12 @@
 -- The three branches are those of the definition.
 -- Assumes nothing.
 use borrow.Author.Rules.{rules}
-use Rattle.message.proofs.Turns.{more-zero, more-fits, more-over}
+use Rattle.message.proofs.Turns.{more_zero, more_fits, more_over}
 use Rattle.message.proofs.more.Statement.{statement}
 use Rattle.message.proofs.more.Tie as tie
 
 returns : tie.Need-returns
-returns c = let a = c.before.args in more-zero a.p a.v a.b c.if1.true
+returns c = let a = c.before.args in more_zero a.p a.v a.b c.if1.true
 
 wide-requires : tie.Need-wide-requires
 wide-requires c κs = search rules
@@ -27,10 +27,10 @@ cast-t11 : tie.Need-overflow-cast-t11
 cast-t11 c = search rules
 
 returns-2 : tie.Need-returns-2
-returns-2 c = let a = c.before.before.before.before.args in more-fits a.p a.v a.b _ _ c.before.before.before.if1.false c.before.before.wide.ensures.0 c.before.wide2.ensures.0 c.if2.true
+returns-2 c = let a = c.before.before.before.before.args in more_fits a.p a.v a.b _ _ c.before.before.before.if1.false c.before.before.wide.ensures.0 c.before.wide2.ensures.0 c.if2.true
 
 returns-3 : tie.Need-returns-3
-returns-3 c = let a = c.before.before.before.before.args in more-over a.p a.v a.b _ _ c.before.before.before.if1.false c.before.before.wide.ensures.0 c.before.wide2.ensures.0 c.if2.false
+returns-3 c = let a = c.before.before.before.before.args in more_over a.p a.v a.b _ _ c.before.before.before.if1.false c.before.before.wide.ensures.0 c.before.wide2.ensures.0 c.if2.false
 
 pub more-spec : {M : Type 1} → statement M
 more-spec =

@@ -7,7 +7,7 @@ use borrow.Author.Rules.{rules}
 use lib.ListN.{drop, length}
 use Rattle.message.specs.declared.Scan.TheVariants.{Opening}
 use Rattle.message.specs.Scan.{numbers_from}
-use Rattle.message.proofs.Turns.{numbers-ended, numbers-next, numbers-over}
+use Rattle.message.proofs.Turns.{numbers_ended, numbers_next, numbers_over}
 use Rattle.message.proofs.numbers_at.Statement.{statement}
 use Rattle.message.proofs.numbers_at.Tie as tie
 
@@ -32,7 +32,7 @@ ends-at-requires c κs = search rules
 returns : tie.Need-returns invariant-loop decreases-loop
 returns c =
     let a = c.before.before.before.before.before.before.args in let l = c.before.before.before.before.loop in
-    c.ends_at.ensures ∙ sym (l.invariant.2 ∙ numbers-ended l.st (l.i - a.from) a.s.now l.i (omega arith) c.before.if1.true)
+    c.ends_at.ensures ∙ sym (l.invariant.2 ∙ numbers_ended l.st (l.i - a.from) a.s.now l.i (omega arith) c.before.if1.true)
 
 scan-byte-requires : tie.Need-scan-byte-requires invariant-loop decreases-loop
 scan-byte-requires c κs = search rules
@@ -46,12 +46,12 @@ loop-less c = search rules
 loop-again : tie.Need-loop-preserved invariant-loop decreases-loop
 loop-again c =
     let a = c.before.before.before.before.before.before.args in let l = c.before.before.before.before.loop in
-    (omega arith, omega arith, l.invariant.2 ∙ numbers-next l.st (l.i - a.from) a.s.now l.i (omega arith) c.before.if1.false _ (l.i + 1 - a.from) c.scan-byte.ensures (omega arith))
+    (omega arith, omega arith, l.invariant.2 ∙ numbers_next l.st (l.i - a.from) a.s.now l.i (omega arith) c.before.if1.false _ (l.i + 1 - a.from) c.scan-byte.ensures (omega arith))
 
 returns-2 : tie.Need-returns-2 invariant-loop decreases-loop
 returns-2 c =
     let a = c.before.before.before.args in let l = c.before.loop in
-    sym (l.invariant.2 ∙ numbers-over l.st (l.i - a.from) a.s.now l.i (omega arith))
+    sym (l.invariant.2 ∙ numbers_over l.st (l.i - a.from) a.s.now l.i (omega arith))
 
 pub numbers-at-spec : {M : Type 1} → statement M
 numbers-at-spec =

@@ -2,7 +2,7 @@
 -- Assumes nothing.
 use Prim.Native.Nat.{◌-◌}
 use borrow.Author.Rules.{rules}
-use Rattle.motor.proofs.Walks.{Counted, none_counted, one-counted, none_left, all-counted}
+use Rattle.motor.proofs.Walks.{Counted, none_counted, one_counted, none_left, all_counted}
 use Rattle.motor.proofs.size.Statement.{statement}
 use Rattle.motor.proofs.size.Tie as tie
 
@@ -29,12 +29,12 @@ loop-less c = search rules
 loop-again : tie.Need-loop-preserved invariant-loop decreases-loop
 loop-again c =
     let l = c.before.before.loop in
-    one-counted c.before.before.before.args.string l.n l.rest l.invariant c.before.loop-test.true c.if1.false
+    one_counted c.before.before.before.args.string l.n l.rest l.invariant c.before.loop-test.true c.if1.false
 
 returns-2 : tie.Need-returns-2 invariant-loop decreases-loop
 returns-2 c =
     let l = c.before.loop in
-    (all-counted c.before.before.args.string l.n l.rest l.invariant c.loop-test.false, l.invariant.within)
+    (all_counted c.before.before.args.string l.n l.rest l.invariant c.loop-test.false, l.invariant.within)
 
 pub size-spec : {M : Type 1} → statement M
 size-spec =

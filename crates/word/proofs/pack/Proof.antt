@@ -6,7 +6,7 @@ use mathlib.Core.Path.{◌≡◌, ap, ◌∙◌}
 use native.Mathlib.Omega.{arith}
 use lib.ListN.{drop}
 use Rattle.word.specs.Word.{packed}
-use Rattle.word.proofs.Packs.{Packs, none-packed, room, one-packed}
+use Rattle.word.proofs.Packs.{Packs, none_packed, room, one_packed}
 use Rattle.word.proofs.pack.Statement.{statement}
 use Rattle.word.proofs.pack.Tie as tie
 
@@ -17,7 +17,7 @@ abbrev decreases-loop : tie.decreases-loop
 decreases-loop cs n₀ i₀ n i = i
 
 loop-holds : tie.Need-loop-init invariant-loop decreases-loop
-loop-holds c = none-packed c.args.t1 c.well-formed.0.1.0.1
+loop-holds c = none_packed c.args.t1 c.well-formed.0.1.0.1
 
 sub-i : tie.Need-overflow-sub-i invariant-loop decreases-loop
 sub-i c = search rules
@@ -38,7 +38,7 @@ loop-again : tie.Need-loop-preserved invariant-loop decreases-loop
 loop-again c =
     let a = c.before.before.before in
     let l = c.before.before.loop in
-    one-packed a.args.t1 a.well-formed.0.1.0.1 l.i l.n l.invariant c.beneath.result c.before.loop-test.true c.beneath.ensures.0 c.beneath.ensures.1
+    one_packed a.args.t1 a.well-formed.0.1.0.1 l.i l.n l.invariant c.beneath.result c.before.loop-test.true c.beneath.ensures.0 c.beneath.ensures.1
 
 returns : tie.Need-returns invariant-loop decreases-loop
 returns c =

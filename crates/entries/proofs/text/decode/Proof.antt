@@ -8,7 +8,7 @@ use lib.ListN.{length, drop}
 use borrow.Author.Tests.{ltb-true, ltb-false}
 use Rattle.laws.proofs.Tail.{to_end}
 use Rattle.entries.specs.Text.{first_piece}
-use Rattle.entries.proofs.Decoding.{Decodes, start, turn, text-ends, room-ends}
+use Rattle.entries.proofs.Decoding.{Decodes, start, turn, text_ends, room_ends}
 use borrow.Author.Rules.{rules}
 use Rattle.entries.proofs.text.decode.Statement.{statement}
 use Rattle.entries.proofs.text.decode.Tie as tie
@@ -64,7 +64,7 @@ returns c =
     let a = c.before.before.before.before.before.args in
     let l = c.before.before.loop in
     let full : length l.out ≤ l.k = ltb-false l.k (length l.out) c.if1.false in
-    room-ends a.form a.s.now a.out.now l.out l.i l.k l.invariant.2 (omega (arith, full, l.invariant.2.same_length))
+    room_ends a.form a.s.now a.out.now l.out l.i l.k l.invariant.2 (omega (arith, full, l.invariant.2.same_length))
 
 same-length-2 : tie.Need-same-length-2 invariant-loop decreases-loop
 same-length-2 c = search rules
@@ -73,7 +73,7 @@ returns-2 : tie.Need-returns-2 invariant-loop decreases-loop
 returns-2 c =
     let a = c.before.before.before.before.args in
     let l = c.before.loop in
-    text-ends a.form a.s.now a.out.now l.out l.i l.k l.invariant.2 c.loop-test.false
+    text_ends a.form a.s.now a.out.now l.out l.i l.k l.invariant.2 c.loop-test.false
 
 pub decode-spec : {M : Type 1} → statement M
 decode-spec =

@@ -12,7 +12,7 @@ use borrow.Rule.Slice.PartMut.{put_mid}
 use Rattle.linebox.specs.Names.{Host, All}
 use Rattle.laws.proofs.Filled.{unfilled}
 use Rattle.step.proofs.Stays.{sound_parts}
-use Rattle.linebox.proofs.Turns.{Reached, reached, ran, kept_on, read_next, stops, all-taken, stays, turn}
+use Rattle.linebox.proofs.Turns.{Reached, reached, ran, kept_on, read_next, stops, all_taken, stays, turn}
 use borrow.Author.Rules.{rules}
 use borrow.Author.Tests.{not-true, not-false}
 use Rattle.linebox.proofs.calls.take_host.Statement.{statement}
@@ -164,7 +164,7 @@ returns c =
     let u = w.before.before.before.run.result in
     rw c.ended.ensures
     (stops Host a.start a.input.now a.line.now a.host.now w.with-reader.result (l.taken + x.taken + u.taken) _ l.host (l.one + x.count) l.two All (kept_of w)
-    (all-taken Host a.start a.input.now a.line.now a.host.now w.with-reader.result (l.taken + x.taken + u.taken) _ _ c.before.if1.true))
+    (all_taken Host a.start a.input.now a.line.now a.host.now w.with-reader.result (l.taken + x.taken + u.taken) _ _ c.before.if1.true))
 
 sub-put-read : tie.Need-overflow-sub-put-read invariant-loop decreases-loop
 sub-put-read c = within_of c.before.before
@@ -299,7 +299,7 @@ returns-3 c =
     let a = m.before.before.before.before.args in
     rw c.ended3.ensures
     (stops Host a.start a.input.now a.line.now a.host.now l.state l.taken l.line l.host l.one l.two All l.invariant
-    (all-taken Host a.start a.input.now a.line.now a.host.now l.state l.taken _ _ e.loop-test.false))
+    (all_taken Host a.start a.input.now a.line.now a.host.now l.state l.taken _ _ e.loop-test.false))
 
 pub take-host-spec : {M : Type 1} → statement M
 take-host-spec =

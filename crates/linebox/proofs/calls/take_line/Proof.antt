@@ -8,7 +8,7 @@ use borrow.Author.Tests.{lt-ltb, le-ltb, not-true, not-false}
 use lib.ListN.{length}
 use Rattle.linebox.specs.Names.{Line, All, NoCode}
 use Rattle.laws.proofs.Filled.{unfilled}
-use Rattle.linebox.proofs.Turns.{Reached, reached, stops, all-taken, no_code, stays, turn, turn-rooms}
+use Rattle.linebox.proofs.Turns.{Reached, reached, stops, all_taken, no_code, stays, turn, turn_rooms}
 use borrow.Author.Rules.{rules}
 use Rattle.linebox.proofs.calls.take_line.Statement.{statement}
 use Rattle.linebox.proofs.calls.take_line.Tie as tie
@@ -108,7 +108,7 @@ rooms d =
     let m = i.before.before.before in
     let l = m.loop in
     let a = m.before.before.before.before.args in
-    turn-rooms Line a.start a.codes.now a.host.now a.tu.now l.state l.taken i.before.before.loop-test.true l.host l.tu _ _ l.one l.two _ l.invariant (le-ltb _ _ i.if1.false) p.put-line.ensures (not-false _ d.before.before.if2.false)
+    turn_rooms Line a.start a.codes.now a.host.now a.tu.now l.state l.taken i.before.before.loop-test.true l.host l.tu _ _ l.one l.two _ l.invariant (le-ltb _ _ i.if1.false) p.put-line.ensures (not-false _ d.before.before.if2.false)
 
 add-one : tie.Need-overflow-add-one invariant-loop decreases-loop
 add-one c =
@@ -155,7 +155,7 @@ returns-3 c =
     let a = m.before.before.before.before.args in
     rw c.ended3.ensures
     (stops Line a.start a.codes.now a.host.now a.tu.now l.state l.taken l.host l.tu l.one l.two All l.invariant
-    (all-taken Line a.start a.codes.now a.host.now a.tu.now l.state l.taken _ _ e.loop-test.false))
+    (all_taken Line a.start a.codes.now a.host.now a.tu.now l.state l.taken _ _ e.loop-test.false))
 
 pub take-line-spec : {M : Type 1} → statement M
 take-line-spec =

@@ -9,7 +9,7 @@ use borrow.Rule.Slice.PartMut.{put_mid}
 use lib.ListN.{length}
 use Rattle.linebox.specs.Names.{Tu, All, NoCode}
 use Rattle.laws.proofs.Filled.{unfilled}
-use Rattle.linebox.proofs.Turns.{Reached, reached, ran, stops, all-taken, no_code, stays, turn}
+use Rattle.linebox.proofs.Turns.{Reached, reached, ran, stops, all_taken, no_code, stays, turn}
 use borrow.Author.Rules.{rules}
 use Rattle.linebox.proofs.calls.take_tu.Statement.{statement}
 use Rattle.linebox.proofs.calls.take_tu.Tie as tie
@@ -98,7 +98,7 @@ returns c =
     let x = d.take-codes.result in
     rw c.ended.ensures
     (stops Tu a.start a.codes.now a.line.now a.host.now x.state (l.taken + x.taken) _ l.host (l.one + x.count) l.two All (run_of d)
-    (all-taken Tu a.start a.codes.now a.line.now a.host.now x.state (l.taken + x.taken) _ _ c.before.if1.true))
+    (all_taken Tu a.start a.codes.now a.line.now a.host.now x.state (l.taken + x.taken) _ _ c.before.if1.true))
 
 shared-slice-read-code : tie.Need-shared-slice-read-code invariant-loop decreases-loop
 shared-slice-read-code c = c.before.if1.false
@@ -249,7 +249,7 @@ returns-4 c =
     let a = m.before.before.before.before.args in
     rw c.ended4.ensures
     (stops Tu a.start a.codes.now a.line.now a.host.now l.state l.taken l.line l.host l.one l.two All l.invariant
-    (all-taken Tu a.start a.codes.now a.line.now a.host.now l.state l.taken _ _ e.loop-test.false))
+    (all_taken Tu a.start a.codes.now a.line.now a.host.now l.state l.taken _ _ e.loop-test.false))
 
 pub take-tu-spec : {M : Type 1} → statement M
 take-tu-spec =

@@ -1,6 +1,6 @@
 -- `linebox::runs::run_text` meets its contract: text with nothing held is a run of plain bytes.
 -- Assumes nothing.
-use Rattle.linebox.proofs.PlainText.{text_none, text-runs}
+use Rattle.linebox.proofs.PlainText.{text_none, text_runs}
 use borrow.Author.Rules.{rules}
 use Rattle.linebox.proofs.runs.run_text.Statement.{statement}
 use Rattle.linebox.proofs.runs.run_text.Tie as tie
@@ -40,7 +40,7 @@ returns-2 c =
     let b = d.before.before.before.before.before.before in
     let a = b.args in
     rw (c.with-sender.ensures, c.before.with-reader.ensures, c.before.before.idle.ensures)
-    (text-runs a.s b.requires.0 b.requires.1 b.requires.2 b.requires.3 a.input.now a.line.now _ d.send.result d.send.ensures e.if1.false)
+    (text_runs a.s b.requires.0 b.requires.1 b.requires.2 b.requires.3 a.input.now a.line.now _ d.send.result d.send.ensures e.if1.false)
 
 pub run-text-spec : {M : Type 1} → statement M
 run-text-spec =

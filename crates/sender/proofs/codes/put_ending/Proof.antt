@@ -8,9 +8,9 @@ use lib.Dec.{lit≤}
 use lib.ListN.{length}
 use Rattle.laws.proofs.Filled.{free_length}
 use Rattle.word.specs.Word.{digits_by, unpacked}
-use Rattle.word.proofs.Words.{digits-none, digits_more}
+use Rattle.word.proofs.Words.{digits_none, digits_more}
 use Rattle.sender.specs.Ending.{ending_of, until_zero}
-use Rattle.sender.proofs.Endings.{Ending, ending-start, at_zero, at-end, ending-over, ending-room, ending-turn}
+use Rattle.sender.proofs.Endings.{Ending, ending_start, at_zero, at_end, ending_over, ending_room, ending_turn}
 use borrow.Author.Rules.{rules}
 use Rattle.sender.proofs.codes.put_ending.Statement.{statement}
 use Rattle.sender.proofs.codes.put_ending.Tie as tie
@@ -24,7 +24,7 @@ decreases-loop o string out₀ held₀ count₀ rest₀ left₀ out held count r
 loop-holds : tie.Need-loop-init invariant-loop decreases-loop
 loop-holds c =
     let a = c.before.args in
-    (c.before.requires, ending-start a.o a.start (unpacked a.string) a.out.now)
+    (c.before.requires, ending_start a.o a.start (unpacked a.string) a.out.now)
 
 cast-c : tie.Need-overflow-cast-c invariant-loop decreases-loop
 cast-c c = search rules
@@ -43,7 +43,7 @@ returns c =
     let others = digits_by 32 l.left l.rest in
     let more = digits_more 32 (lit≤ tt) l.left l.rest c.before.before.loop-test.true in
     let over = at_zero a.o a.start (unpacked a.string) l.held others (l.rest % 32) (digits_by 32 (l.left - 1) (l.rest / 32)) more (rw c.before.is-end.ensures at c.if1.true) in
-    ending-over a.o a.start (unpacked a.string) l.held others a.out.now l.out l.count l.invariant.1 over
+    ending_over a.o a.start (unpacked a.string) l.held others a.out.now l.out l.count l.invariant.1 over
 
 on-record-requires : tie.Need-on-record-requires invariant-loop decreases-loop
 on-record-requires c κs = search rules
@@ -70,7 +70,7 @@ put-code-requires c κs =
     let others = digits_by 32 l.left l.rest in
     let more = digits_more 32 (lit≤ tt) l.left l.rest e.before.before.loop-test.true in
     rw (free_length l.out l.count, k.before.on_record.ensures, k.kind-of.ensures)
-    (ending-room a.o a.start (unpacked a.string) l.held others (l.rest % 32) (digits_by 32 (l.left - 1) (l.rest / 32)) more (rw e.before.is-end.ensures at e.if1.false) a.out.now l.out l.count l.invariant.1 l.invariant.0)
+    (ending_room a.o a.start (unpacked a.string) l.held others (l.rest % 32) (digits_by 32 (l.left - 1) (l.rest / 32)) more (rw e.before.is-end.ensures at e.if1.false) a.out.now l.out l.count l.invariant.1 l.invariant.0)
 
 after-requires : tie.Need-after-requires invariant-loop decreases-loop
 after-requires c κs = search rules
@@ -95,7 +95,7 @@ loop-again c =
     let others = digits_by 32 l.left l.rest in
     let more = digits_more 32 (lit≤ tt) l.left l.rest e.before.before.loop-test.true in
     rw (c.after.ensures, k.before.on_record.ensures, k.kind-of.ensures)
-    (l.invariant.0, ending-turn a.o a.start (unpacked a.string) l.held others (l.rest % 32) (digits_by 32 (l.left - 1) (l.rest / 32)) more (rw e.before.is-end.ensures at e.if1.false) a.out.now l.out _ l.count _ l.invariant.1 (rw (k.before.on_record.ensures, k.kind-of.ensures) at p.put-code.ensures))
+    (l.invariant.0, ending_turn a.o a.start (unpacked a.string) l.held others (l.rest % 32) (digits_by 32 (l.left - 1) (l.rest / 32)) more (rw e.before.is-end.ensures at e.if1.false) a.out.now l.out _ l.count _ l.invariant.1 (rw (k.before.on_record.ensures, k.kind-of.ensures) at p.put-code.ensures))
 
 same-length-2 : tie.Need-same-length-2 invariant-loop decreases-loop
 same-length-2 c = search rules
@@ -105,8 +105,8 @@ returns-2 c =
     let l = c.before.loop in
     let a = c.before.before.before.args in
     let others = digits_by 32 l.left l.rest in
-    let over = at-end a.o a.start (unpacked a.string) l.held others (digits-none 32 (lit≤ tt) l.left l.rest c.loop-test.false) in
-    ending-over a.o a.start (unpacked a.string) l.held others a.out.now l.out l.count l.invariant.1 over
+    let over = at_end a.o a.start (unpacked a.string) l.held others (digits_none 32 (lit≤ tt) l.left l.rest c.loop-test.false) in
+    ending_over a.o a.start (unpacked a.string) l.held others a.out.now l.out l.count l.invariant.1 over
 
 pub put-ending-spec : {M : Type 1} → statement M
 put-ending-spec =

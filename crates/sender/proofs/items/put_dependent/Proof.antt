@@ -3,7 +3,7 @@
 use native.Mathlib.Omega.{arith}
 use Rattle.laws.proofs.Filled.{free_length}
 use Rattle.sender.specs.Names.{Char}
-use Rattle.sender.proofs.OneItem.{ending-room, character-room, character-put}
+use Rattle.sender.proofs.OneItem.{ending_room, character_room, character_put}
 use borrow.Author.Rules.{rules}
 use Rattle.sender.proofs.items.put_dependent.Statement.{statement}
 use Rattle.sender.proofs.items.put_dependent.Tie as tie
@@ -16,7 +16,7 @@ end-before-requires c κs =
     let m = c.before in
     let b = m.before.before in
     let a = b.args in
-    rw m.strikes.ensures (ending-room a.o a.held a.w (Char a.bell) b.requires.0 _ b.requires.1)
+    rw m.strikes.ensures (ending_room a.o a.held a.w (Char a.bell) b.requires.0 _ b.requires.1)
 
 sub-put-led : tie.Need-overflow-sub-put-led
 sub-put-led c = search rules
@@ -35,7 +35,7 @@ put-led-requires c κs =
     let a = b.args in
     let f = rw m.strikes.ensures at e.end_Before.ensures in
     let x = e.end_Before.result in
-    rw (free_length _ x.count) (character-room a.o a.held a.w (Char a.bell) b.requires.0 x.held f.held a.out.now _ x.count f.places b.requires.1)
+    rw (free_length _ x.count) (character_room a.o a.held a.w (Char a.bell) b.requires.0 x.held f.held a.out.now _ x.count f.places b.requires.1)
 
 after-requires : tie.Need-after-requires
 after-requires c κs = search rules
@@ -48,7 +48,7 @@ add-t17 c =
     let b = m.before.before in
     let a = b.args in
     let f = rw m.strikes.ensures at e.end_Before.ensures in
-    let q = character-put a.o a.held a.w (Char a.bell) b.requires.0 _ f.held a.out.now _ _ _ _ f.places p.put-led.ensures in
+    let q = character_put a.o a.held a.w (Char a.bell) b.requires.0 _ f.held a.out.now _ _ _ _ f.places p.put-led.ensures in
     omega (arith, q.places.room, b.well-formed)
 
 same_length : tie.Need-same-length
@@ -62,7 +62,7 @@ returns c =
     let b = m.before.before in
     let a = b.args in
     let f = rw m.strikes.ensures at e.end_Before.ensures in
-    rw c.after.ensures (character-put a.o a.held a.w (Char a.bell) b.requires.0 _ f.held a.out.now _ _ _ _ f.places p.put-led.ensures)
+    rw c.after.ensures (character_put a.o a.held a.w (Char a.bell) b.requires.0 _ f.held a.out.now _ _ _ _ f.places p.put-led.ensures)
 
 pub put-dependent-spec : {M : Type 1} → statement M
 put-dependent-spec =

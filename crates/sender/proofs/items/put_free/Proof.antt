@@ -2,7 +2,7 @@
 -- Assumes nothing.
 use native.Mathlib.Omega.{arith}
 use Rattle.laws.proofs.Filled.{free_length}
-use Rattle.sender.proofs.OneItem.{ending-room, character-room, character-put}
+use Rattle.sender.proofs.OneItem.{ending_room, character_room, character_put}
 use Rattle.sender.proofs.Shifted.{unled}
 use borrow.Author.Rules.{rules}
 use Rattle.sender.proofs.items.put_free.Statement.{statement}
@@ -16,7 +16,7 @@ end-before-free-requires c κs =
     let m = c.before in
     let b = m.before.before in
     let a = b.args in
-    rw m.moves.ensures (ending-room a.o a.held a.w a.k b.requires.0 _ b.requires.2)
+    rw m.moves.ensures (ending_room a.o a.held a.w a.k b.requires.0 _ b.requires.2)
 
 sub-put-followed : tie.Need-overflow-sub-put-followed
 sub-put-followed c = search rules
@@ -36,7 +36,7 @@ put-followed-requires c κs =
     let f = rw m.moves.ensures at e.end-before-free.ensures in
     let x = e.end-before-free.result in
     let u = unled a.o x.held.case a.w.case a.k a.w.code b.requires.1 in
-    rw (free_length _ x.count) (rw u at (character-room a.o a.held a.w a.k b.requires.0 x.held f.held a.out.now _ x.count f.places b.requires.2))
+    rw (free_length _ x.count) (rw u at (character_room a.o a.held a.w a.k b.requires.0 x.held f.held a.out.now _ x.count f.places b.requires.2))
 
 after-requires : tie.Need-after-requires
 after-requires c κs = search rules
@@ -50,7 +50,7 @@ add-t17 c =
     let a = b.args in
     let f = rw m.moves.ensures at e.end-before-free.ensures in
     let u = unled a.o e.end-before-free.result.held.case a.w.case a.k a.w.code b.requires.1 in
-    let q = character-put a.o a.held a.w a.k b.requires.0 _ f.held a.out.now _ _ _ _ f.places (rw (← u) at p.put-followed.ensures) in
+    let q = character_put a.o a.held a.w a.k b.requires.0 _ f.held a.out.now _ _ _ _ f.places (rw (← u) at p.put-followed.ensures) in
     omega (arith, q.places.room, b.well-formed)
 
 same_length : tie.Need-same-length
@@ -65,7 +65,7 @@ returns c =
     let a = b.args in
     let f = rw m.moves.ensures at e.end-before-free.ensures in
     let u = unled a.o e.end-before-free.result.held.case a.w.case a.k a.w.code b.requires.1 in
-    rw c.after.ensures (character-put a.o a.held a.w a.k b.requires.0 _ f.held a.out.now _ _ _ _ f.places (rw (← u) at p.put-followed.ensures))
+    rw c.after.ensures (character_put a.o a.held a.w a.k b.requires.0 _ f.held a.out.now _ _ _ _ f.places (rw (← u) at p.put-followed.ensures))
 
 pub put-free-spec : {M : Type 1} → statement M
 put-free-spec =

@@ -1,6 +1,6 @@
 -- `sender::items::put_item` meets its contract: a dropped item is no code, any other its character.
 -- Assumes nothing.
-use Rattle.sender.proofs.OneItem.{item-dropped, item_room, item-sent}
+use Rattle.sender.proofs.OneItem.{item_dropped, item_room, item_sent}
 use borrow.Author.Rules.{rules}
 use Rattle.sender.proofs.items.put_item.Statement.{statement}
 use Rattle.sender.proofs.items.put_item.Tie as tie
@@ -18,7 +18,7 @@ returns : tie.Need-returns
 returns c =
     let d = c.before.before.before in
     let a = d.before.before.before.args in
-    item-dropped a.o a.s a.w _ _ d.kind-of.ensures c.before.before.last_of.ensures (rw c.before.is-dropped.ensures at c.if1.true) a.out.now
+    item_dropped a.o a.s a.w _ _ d.kind-of.ensures c.before.before.last_of.ensures (rw c.before.is-dropped.ensures at c.if1.true) a.out.now
 
 put-character-requires : tie.Need-put-character-requires
 put-character-requires c κs =
@@ -37,7 +37,7 @@ returns-2 c =
     let e = p.before.before in
     let d = e.before.before.before in
     let a = d.before.before.before.args in
-    item-sent a.o a.s a.w _ _ d.kind-of.ensures e.before.before.last_of.ensures (rw e.before.is-dropped.ensures at e.if1.false) a.out.now _ _ p.put-character.ensures
+    item_sent a.o a.s a.w _ _ d.kind-of.ensures e.before.before.last_of.ensures (rw e.before.is-dropped.ensures at e.if1.false) a.out.now _ _ p.put-character.ensures
 
 pub put-item-spec : {M : Type 1} → statement M
 put-item-spec =

@@ -8,8 +8,8 @@ use borrow.Author.Tests.{leb-true, not-true, not-false}
 use Rattle.laws.proofs.Filled.{free_length}
 use Rattle.sender.specs.Item.{converted}
 use Rattle.sender.specs.Run.{most}
-use Rattle.sender.proofs.Few.{byte-most}
-use Rattle.sender.proofs.Sending.{Sending, sending, all_sent, no_room, at-stop, sends-on}
+use Rattle.sender.proofs.Few.{byte_most}
+use Rattle.sender.proofs.Sending.{Sending, sending, all_sent, no_room, at_stop, sends_on}
 use borrow.Author.Rules.{rules}
 use Rattle.sender.proofs.runs.send.Statement.{statement}
 use Rattle.sender.proofs.runs.send.Tie as tie
@@ -49,7 +49,7 @@ returns c =
     let l = m.loop in
     let a = m.before.before.before.before.args in
     rw c.sent.ensures
-    (at-stop a.o a.start a.first a.until a.bytes.now a.out.now l.sender l.asks l.taken l.out l.count l.invariant t.loop-test.true (rw h.stops.ensures at g.if1.true))
+    (at_stop a.o a.start a.first a.until a.bytes.now a.out.now l.sender l.asks l.taken l.out l.count l.invariant t.loop-test.true (rw h.stops.ensures at g.if1.true))
 
 sub-has-room : tie.Need-overflow-sub-has-room invariant-loop decreases-loop
 sub-has-room c = search rules
@@ -101,7 +101,7 @@ put-asked-requires c κs =
     let a = m.before.before.before.before.args in
     let x = converted a.o l.asks (get_or a.bytes.now l.taken 0) in
     let room : most ≤ length l.out - l.count = leb-true _ _ (rw r.has_room.ensures at (not-false r.has_room.result f.if2.false)) in
-    rw (free_length l.out l.count, v.convert-as.ensures) (omega (arith, room, byte-most a.o l.sender x))
+    rw (free_length l.out l.count, v.convert-as.ensures) (omega (arith, room, byte_most a.o l.sender x))
 
 next-asks-requires : tie.Need-next-asks-requires invariant-loop decreases-loop
 next-asks-requires c κs = search rules
@@ -133,7 +133,7 @@ loop-again c =
     let l = m.loop in
     let a = m.before.before.before.before.args in
     rw c.before.before.next-asks.ensures
-    (sends-on a.o a.start a.first a.until a.bytes.now a.out.now l.sender l.asks l.taken l.out l.count l.invariant t.loop-test.true (rw h.stops.ensures at g.if1.false) (rw f.before.has_room.ensures at (not-false f.before.has_room.result f.if2.false)) _ p.put-asked.result (rw v.convert-as.ensures at p.put-asked.ensures))
+    (sends_on a.o a.start a.first a.until a.bytes.now a.out.now l.sender l.asks l.taken l.out l.count l.invariant t.loop-test.true (rw h.stops.ensures at g.if1.false) (rw f.before.has_room.ensures at (not-false f.before.has_room.result f.if2.false)) _ p.put-asked.result (rw v.convert-as.ensures at p.put-asked.ensures))
 
 sent-requires-3 : tie.Need-sent-requires-3 invariant-loop decreases-loop
 sent-requires-3 c κs = search rules

@@ -13,7 +13,7 @@ link-sound-requires c κs = search rules
 
 returns : tie.Need-returns
 unfolding sound_connection
-returns c = simp (c.before.row.ensures, c.link-sound.ensures)
+returns c = simp (c.before.row.ensures, c.link_sound.ensures)
 
 pub connection-sound-spec : {M : Type 1} → statement M
 connection-sound-spec = tie.close (tie.spec row-requires link-sound-requires returns)

@@ -19,7 +19,7 @@ returns : tie.Need-returns
 unfolding sound_settings
 returns c =
     let v = c.before.before in
-    rw (v.values-sound.ensures, c.before.stand-in-sound.ensures, c.is-ending.ensures, word_string v.before.args.s.string)
+    rw (v.values-sound.ensures, c.before.stand_in_sound.ensures, c.is-ending.ensures, word_string v.before.args.s.string)
 
 pub settings-sound-spec : {M : Type 1} → statement M
 settings-sound-spec =

@@ -3,7 +3,7 @@
 use mathlib.Core.Path.{sym, ◌∙◌}
 use borrow.Author.Rules.{rules}
 use Rattle.code.specs.declared.Conversion.TheVariants.{Nothing, Cased}
-use Rattle.step.proofs.Hearing.{heard-both}
+use Rattle.step.proofs.Hearing.{heard_both_law}
 use Rattle.step.proofs.hears.hear_code.Statement.{statement}
 use Rattle.step.proofs.hears.hear_code.Tie as tie
 
@@ -16,7 +16,7 @@ hear-both-requires c κs = search rules
 returns : tie.Need-returns
 returns c =
     let a = c.before.before.before.before.before.before.args in
-    rw c.hear-both.ensures (heard-both a.s (Cased a.s.incoming a.c) Nothing (sym c.before.before.before.before.before.is-heard.ensures ∙ c.before.before.before.before.if1.true))
+    rw c.hear-both.ensures (heard_both_law a.s (Cased a.s.incoming a.c) Nothing (sym c.before.before.before.before.before.is-heard.ensures ∙ c.before.before.before.before.if1.true))
 
 unheard-requires : tie.Need-unheard-requires
 unheard-requires c κs = sym c.before.is-heard.ensures ∙ c.if1.false

@@ -6,7 +6,7 @@ use borrow.Author.Rules.{rules}
 use Rattle.sender.specs.Item.{wanted_of}
 use Rattle.step.specs.Names.{Wanted}
 use Rattle.step.specs.Hear.{Hears}
-use Rattle.step.proofs.Hearing.{heard-both, text_two}
+use Rattle.step.proofs.Hearing.{heard_both_law, text_two}
 use Rattle.step.proofs.hears.hear_text.Statement.{statement}
 use Rattle.step.proofs.hears.hear_text.Tie as tie
 
@@ -28,7 +28,7 @@ returns c =
     let a = b.args in
     let x = c.before.before.speak-at in
     let y = c.before.speak-at2 in
-    let h : Hears a.s (wanted_of x.result ++ wanted_of y.result) c.hear-both.result = rw c.hear-both.ensures (heard-both a.s x.result y.result (sym c.before.before.before.before.before.before.before.before.is-heard.ensures ∙ c.before.before.before.before.before.before.before.if1.true)) in
+    let h : Hears a.s (wanted_of x.result ++ wanted_of y.result) c.hear-both.result = rw c.hear-both.ensures (heard_both_law a.s x.result y.result (sym c.before.before.before.before.before.before.before.before.is-heard.ensures ∙ c.before.before.before.before.before.before.before.if1.true)) in
     subst (λ (ws : List Wanted). Hears a.s ws c.hear-both.result) (text_two a.s.settings a.bytes.now b.requires) (rw (x.ensures, y.ensures) at h)
 
 unheard-requires : tie.Need-unheard-requires

@@ -8,7 +8,7 @@ use types.Run.{miss}
 use Rattle.laws.proofs.Tail.{to_end}
 use Rattle.step.specs.Names.{Host}
 use Rattle.step.specs.State.{with_reader}
-use Rattle.step.proofs.Bytes.{offers-second}
+use Rattle.step.proofs.Bytes.{offers_second}
 use Rattle.step.proofs.Ways.{host_as}
 use Rattle.step.proofs.Hearing.{hosted_said}
 use borrow.Author.Rules.{rules}
@@ -37,7 +37,7 @@ returns c =
     let d = c.before.before.before.before.before.before.before.before in
     let a = d.before.before.before.before.before.before.args in
     rw (host_as a.s a.x _ _ d.with-reader.ensures c.before.before.before.before.before.before.out.given.1, c.in-second.ensures)
-    (offers-second Host _ _ a.line.now a.host.now _ refl c.before.before.before.put-answer.ensures)
+    (offers_second Host _ _ a.line.now a.host.now _ refl c.before.before.before.put-answer.ensures)
 
 said-by-requires : tie.Need-said-by-requires
 said-by-requires c κs = search rules

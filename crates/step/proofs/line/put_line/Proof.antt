@@ -4,7 +4,7 @@ use mathlib.Core.Path.{refl, sym, ◌∙◌}
 use borrow.Author.Rules.{rules}
 use Rattle.step.specs.Names.{Line}
 use Rattle.step.specs.Step.{quiet}
-use Rattle.step.proofs.Bytes.{puts_none, offers-first, offers-second}
+use Rattle.step.proofs.Bytes.{puts_none, offers_first, offers_second}
 use Rattle.step.proofs.Ways.{line_as}
 use Rattle.step.proofs.line.put_line.Statement.{statement}
 use Rattle.step.proofs.line.put_line.Tie as tie
@@ -53,14 +53,14 @@ returns c =
     let e = c.before.before in
     let a = e.before.before.before.before.before.before.args in
     rw (line_as a.s a.c _ (sym e.before.before.route.ensures ∙ e.enum_told.given.1), c.in-first.ensures, c.before.none.ensures)
-    (offers-first Line (quiet a.s) _ a.host.now a.tu.now _ refl (puts_none a.s a.host.now))
+    (offers_first Line (quiet a.s) _ a.host.now a.tu.now _ refl (puts_none a.s a.host.now))
 
 returns-2 : tie.Need-returns-2
 returns-2 c =
     let e = c.before.before in
     let a = e.before.before.before.before.before.before.args in
     rw (line_as a.s a.c _ (sym e.before.before.route.ensures ∙ e.enum-told2.given.1), c.in-first2.ensures, c.before.none2.ensures)
-    (offers-first Line (quiet a.s) _ a.host.now a.tu.now _ refl (puts_none a.s a.host.now))
+    (offers_first Line (quiet a.s) _ a.host.now a.tu.now _ refl (puts_none a.s a.host.now))
 
 same_length : tie.Need-same-length
 same_length c = search rules
@@ -70,7 +70,7 @@ returns-3 c =
     let e = c.before.before.before.before.before in
     let a = e.before.before.before.before.before.before.args in
     rw (line_as a.s a.c _ (sym e.before.before.route.ensures ∙ e.enum-told3.given.1), c.in-first3.ensures)
-    (offers-first Line _ _ a.host.now a.tu.now _ refl c.before.before.before.put-read.ensures)
+    (offers_first Line _ _ a.host.now a.tu.now _ refl c.before.before.before.put-read.ensures)
 
 same-length-2 : tie.Need-same-length-2
 same-length-2 c = search rules
@@ -80,7 +80,7 @@ returns-4 c =
     let e = c.before.before.before.before.before in
     let a = e.before.before.before.before.before.before.args in
     rw (line_as a.s a.c _ (sym e.before.before.route.ensures ∙ e.enum-told4.given.1), c.in-second.ensures)
-    (offers-second Line _ _ a.host.now a.tu.now _ refl c.before.before.before.put_one.ensures)
+    (offers_second Line _ _ a.host.now a.tu.now _ refl c.before.before.before.put_one.ensures)
 
 pub put-line-spec : {M : Type 1} → statement M
 put-line-spec =

@@ -6,7 +6,7 @@ use native.Mathlib.Nat.{sub-zero}
 use borrow.Author.Rules.{rules}
 use lib.ListN.{length, take}
 use lib.Seq.{length-take-le}
-use Rattle.step.proofs.Sent.{line-full, host-full, both-fit}
+use Rattle.step.proofs.Sent.{line_full, host_full, both_fit}
 use Rattle.step.proofs.sends.put_both.Statement.{statement}
 use Rattle.step.proofs.sends.put_both.Tie as tie
 
@@ -25,7 +25,7 @@ returns c =
     let a = b.args in
     let w : length a.t2 ≡ 36 = search rules in
     let l : length (take a.n a.t2) ≡ a.n = length-take-le a.n a.t2 (omega (arith, w, b.requires.0)) in
-    rw (c.in-first.ensures, c.before.no_room.ensures) (line-full a.s _ _ a.line.now a.host.now (omega (arith, l, c.before.before.if1.true)))
+    rw (c.in-first.ensures, c.before.no_room.ensures) (line_full a.s _ _ a.line.now a.host.now (omega (arith, l, c.before.before.if1.true)))
 
 no-room-requires-2 : tie.Need-no-room-requires-2
 no-room-requires-2 c κs = search rules
@@ -36,7 +36,7 @@ in-first-requires-2 c κs = search rules
 returns-2 : tie.Need-returns-2
 returns-2 c =
     let a = c.before.before.before.before.before.before.before.args in
-    rw (c.in-first2.ensures, c.before.no-room2.ensures) (host-full a.s _ _ a.line.now a.host.now (omega (arith, c.before.before.before.before.told-size.ensures, c.before.before.if2.true)))
+    rw (c.in-first2.ensures, c.before.no-room2.ensures) (host_full a.s _ _ a.line.now a.host.now (omega (arith, c.before.before.before.before.told-size.ensures, c.before.before.if2.true)))
 
 sub-put : tie.Need-overflow-sub-put
 sub-put c = search rules
@@ -67,7 +67,7 @@ returns-3 c =
     let a = b.args in
     let w : length a.t2 ≡ 36 = search rules in
     let l : length (take a.n a.t2) ≡ a.n = length-take-le a.n a.t2 (omega (arith, w, b.requires.0)) in
-    both-fit a.s _ _ a.line.now a.host.now _ _ _ _ (omega (arith, l, c.before.before.before.before.before.before.before.before.before.before.before.if1.false)) (rw sub-zero at c.before.before.before.before.before.before.put.ensures) c.before.before.put-told.ensures
+    both_fit a.s _ _ a.line.now a.host.now _ _ _ _ (omega (arith, l, c.before.before.before.before.before.before.before.before.before.before.before.if1.false)) (rw sub-zero at c.before.before.before.before.before.before.put.ensures) c.before.before.put-told.ensures
 
 pub put-both-spec : {M : Type 1} → statement M
 put-both-spec =

@@ -3,7 +3,7 @@
 use mathlib.Core.Path.{refl}
 use native.Mathlib.Omega.{arith}
 use borrow.Author.Rules.{rules}
-use Rattle.step.proofs.Sent.{text-put}
+use Rattle.step.proofs.Sent.{text_put}
 use Rattle.step.proofs.sends.put_items.Statement.{statement}
 use Rattle.step.proofs.sends.put_items.Tie as tie
 
@@ -39,7 +39,7 @@ returns c =
     let a = b.args in
     let x = c.before.before.before.before.before.before.before.before.before.before.before.before.before.send in
     let h = c.before.before.before.before.before.before.before.before.before.before.hear-text in
-    text-put a.s _ _ x.result refl h.result a.line.now a.host.now _ _ _ a.bytes.now b.requires x.ensures h.ensures (rw (c.before.before.before.before.before.before.before.with-motor.ensures, c.before.before.before.before.before.before.before.before.with-sender.ensures) at c.before.before.before.before.put_both.ensures)
+    text_put a.s _ _ x.result refl h.result a.line.now a.host.now _ _ _ a.bytes.now b.requires x.ensures h.ensures (rw (c.before.before.before.before.before.before.before.with-motor.ensures, c.before.before.before.before.before.before.before.before.with-sender.ensures) at c.before.before.before.before.put_both.ensures)
 
 pub put-items-spec : {M : Type 1} → statement M
 put-items-spec =

@@ -4,7 +4,7 @@ use mathlib.Core.Path.{refl, sym, ◌∙◌}
 use borrow.Author.Rules.{rules}
 use Rattle.step.specs.Names.{Host}
 use Rattle.step.specs.Step.{quiet}
-use Rattle.step.proofs.Bytes.{puts_none, offers-first}
+use Rattle.step.proofs.Bytes.{puts_none, offers_first}
 use Rattle.step.proofs.Ways.{text_as}
 use Rattle.step.proofs.Hearing.{sends_none}
 use Rattle.step.proofs.sends.put_text.Statement.{statement}
@@ -51,7 +51,7 @@ returns c =
     let e = c.before.before in
     let a = c.before.before.before.before.before.before.before.before.before.args in
     rw (text_as a.s a.bytes.now _ (sym e.before.before.route.ensures ∙ e.enum_told.given.1), sends_none a.s, c.in-first.ensures, c.before.none.ensures)
-    (offers-first Host (quiet a.s) _ a.line.now a.host.now _ refl (puts_none a.s a.line.now))
+    (offers_first Host (quiet a.s) _ a.line.now a.host.now _ refl (puts_none a.s a.line.now))
 
 same_length : tie.Need-same-length
 same_length c = search rules
@@ -70,14 +70,14 @@ returns-3 c =
     let e = c.before.before in
     let a = c.before.before.before.before.before.before.before.before.before.args in
     rw (text_as a.s a.bytes.now _ (sym e.before.before.route.ensures ∙ e.enum-told3.given.1), sends_none a.s, c.in-first2.ensures, c.before.none2.ensures)
-    (offers-first Host (quiet a.s) _ a.line.now a.host.now _ refl (puts_none a.s a.line.now))
+    (offers_first Host (quiet a.s) _ a.line.now a.host.now _ refl (puts_none a.s a.line.now))
 
 returns-4 : tie.Need-returns-4
 returns-4 c =
     let e = c.before.before in
     let a = c.before.before.before.before.before.before.before.before.before.args in
     rw (text_as a.s a.bytes.now _ (sym e.before.before.route.ensures ∙ e.enum-told4.given.1), sends_none a.s, c.in-first3.ensures, c.before.none3.ensures)
-    (offers-first Host (quiet a.s) _ a.line.now a.host.now _ refl (puts_none a.s a.line.now))
+    (offers_first Host (quiet a.s) _ a.line.now a.host.now _ refl (puts_none a.s a.line.now))
 
 pub put-text-spec : {M : Type 1} → statement M
 put-text-spec =

@@ -4,7 +4,7 @@ use mathlib.Core.Path.{refl, sym, ◌∙◌}
 use borrow.Author.Rules.{rules}
 use Rattle.step.specs.Names.{Tu}
 use Rattle.step.specs.Step.{quiet}
-use Rattle.step.proofs.Bytes.{puts_none, offers-first}
+use Rattle.step.proofs.Bytes.{puts_none, offers_first}
 use Rattle.step.proofs.Ways.{tu_as}
 use Rattle.step.proofs.sends.put_tu.Statement.{statement}
 use Rattle.step.proofs.sends.put_tu.Tie as tie
@@ -50,7 +50,7 @@ returns c =
     let e = c.before.before in
     let a = c.before.before.before.before.before.before.before.before.args in
     rw (tu_as a.s a.c _ (sym e.before.before.route.ensures ∙ e.enum_told.given.1), c.in-first.ensures, c.before.none.ensures)
-    (offers-first Tu (quiet a.s) _ a.line.now a.host.now _ refl (puts_none a.s a.line.now))
+    (offers_first Tu (quiet a.s) _ a.line.now a.host.now _ refl (puts_none a.s a.line.now))
 
 same_length : tie.Need-same-length
 same_length c = search rules
@@ -69,14 +69,14 @@ returns-3 c =
     let e = c.before.before in
     let a = c.before.before.before.before.before.before.before.before.args in
     rw (tu_as a.s a.c _ (sym e.before.before.route.ensures ∙ e.enum-told3.given.1), c.in-first2.ensures, c.before.none2.ensures)
-    (offers-first Tu (quiet a.s) _ a.line.now a.host.now _ refl (puts_none a.s a.line.now))
+    (offers_first Tu (quiet a.s) _ a.line.now a.host.now _ refl (puts_none a.s a.line.now))
 
 returns-4 : tie.Need-returns-4
 returns-4 c =
     let e = c.before.before in
     let a = c.before.before.before.before.before.before.before.before.args in
     rw (tu_as a.s a.c _ (sym e.before.before.route.ensures ∙ e.enum-told4.given.1), c.in-first3.ensures, c.before.none3.ensures)
-    (offers-first Tu (quiet a.s) _ a.line.now a.host.now _ refl (puts_none a.s a.line.now))
+    (offers_first Tu (quiet a.s) _ a.line.now a.host.now _ refl (puts_none a.s a.line.now))
 
 pub put-tu-spec : {M : Type 1} → statement M
 put-tu-spec =
