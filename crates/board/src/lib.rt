@@ -1,4 +1,6 @@
 // The box for the boards' C: the state as 128 bytes that the caller keeps, and one function for each call.
+#![tactic(auto)]
+
 ghost use Rattle.std.specs.Prelude.{◌≡◌, [], ◌∷◌};
 ghost use Rattle.step.specs.State.{fresh_box};
 ghost use Rattle.board.specs.Names.{Host as Names-as-Host, Line as Names-as-Line, Tu as Names-as-Tu};
@@ -14,7 +16,7 @@ use step::State;
 use step::soundness::{fresh, is_sound};
 
 // What the state's bytes read as, and whether they are the spelling of a sound state.
-#[derive(Drop)]
+#[derive(Clone, Copy)]
 struct Opened {
     sound: bool,
     state: State,

@@ -1,18 +1,20 @@
 // The five-level code: two rows of thirty-two characters, read by case and then by code, and the kinds of codes that they
 // make.
+#![tactic(auto)]
+
 ghost use Rattle.std.specs.Prelude.{◌≡◌, ◌<◌, ◌++◌};
 ghost use Rattle.code.specs.Rows.{letters, figures, place_of, row_at};
 ghost use Rattle.code.specs.Kinds.{kind_of, shift, strikes, moves};
 
 // The case that a printer is in.
-#[derive(Drop)]
+#[derive(Clone, Copy)]
 pub enum Case {
     Letters,
     Figures,
 }
 
 // What a code does, whatever prints. Still: BLANK and LF. Char: a code that depends on case; true where its figure is BELL.
-#[derive(Drop)]
+#[derive(Clone, Copy)]
 pub enum Kind {
     Still,
     Space,
@@ -22,7 +24,7 @@ pub enum Kind {
 }
 
 // What a host byte is on the line: nothing, a code that does not depend on case, or a code with the case it wants.
-#[derive(Drop)]
+#[derive(Clone, Copy)]
 pub enum Conversion {
     Nothing,
     Free(u8),

@@ -1,10 +1,12 @@
 // The command reader: one host byte in; nothing, text or a finished command out.
+#![tactic(auto)]
+
 ghost use Rattle.std.specs.Prelude.{◌≡◌, true, ◌<◌, get_or, set};
 ghost use Rattle.command.specs.Read.{added, afresh, alike, at, digit, ends, ex, field, finish, first, grown, idle, in_field, inside, is_digit, is_letter, is_nothing, opened, over, ByteRead, released, second, sound_stage, swallowed, typed, verb, within};
 ghost use Rattle.command.specs.Reads.{running};
 
 // A command's type: TW, TR or any other two letters.
-#[derive(Drop)]
+#[derive(Clone, Copy)]
 pub enum Verb {
     Write,
     Read,
@@ -12,7 +14,7 @@ pub enum Verb {
 }
 
 // What stands in the field that is being read: nothing yet, digits, or X.
-#[derive(Drop)]
+#[derive(Clone, Copy)]
 pub enum Form {
     Empty,
     Digits,
@@ -22,7 +24,7 @@ pub enum Form {
 // How far the reader is. Swallow: nothing is held, and a CR that ended a command came just before. Held: a `/` is held. Begun:
 // `/.` came. Lettered: one letter, whether it is small and whether it is T. Typed: both letters. Fields: the type, what stands in
 // the field being read, and which one that is, from 0; 11 stands for too many. Discard: the rest is being discarded.
-#[derive(Drop)]
+#[derive(Clone, Copy)]
 pub enum Stage {
     Text,
     Swallow,
@@ -35,7 +37,7 @@ pub enum Stage {
 }
 
 // The reader: how far it is, and the fields. Places that no field uses hold 0.
-#[derive(Drop)]
+#[derive(Clone, Copy)]
 pub struct Reader {
     pub stage: Stage,
     pub values: [u8; 11],
@@ -43,7 +45,7 @@ pub struct Reader {
 
 // What a byte makes: nothing, one text byte, two (the `/` that was held and the byte), or a finished command, with its type and
 // how many fields it has, 12 for too many. The fields stand in the reader as it was before the byte.
-#[derive(Drop)]
+#[derive(Clone, Copy)]
 pub enum Out {
     Nothing,
     One(u8),
@@ -52,7 +54,7 @@ pub enum Out {
 }
 
 // The reader after a byte, and what the byte made.
-#[derive(Drop)]
+#[derive(Clone, Copy)]
 pub struct Step {
     pub reader: Reader,
     pub out: Out,
@@ -60,7 +62,7 @@ pub struct Step {
 
 // A run of bytes that made nothing: the reader after them, how many they are, and what the next byte does; where none is left, it
 // does nothing.
-#[derive(Drop)]
+#[derive(Clone, Copy)]
 pub struct Running {
     pub reader: Reader,
     pub next: Step,

@@ -1,4 +1,6 @@
 // Host text to line codes, by a search through the two rows.
+#![tactic(auto)]
+
 ghost use Rattle.std.specs.Prelude.{◌<◌, ◌≡◌, length};
 ghost use Rattle.code.specs.Kinds.{dependent};
 ghost use Rattle.code.specs.Convert.{capital, place_in, found, conversion};

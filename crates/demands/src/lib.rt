@@ -1,1 +1,2 @@
 // The three demands, and the boxes that they shut out: theorems alone.
+#![tactic(auto)]

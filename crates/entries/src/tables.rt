@@ -7,7 +7,7 @@ use crate::text::{byte_at, hex};
 use code::{Case, Conversion};
 
 // What a line of the input is: an entry of a table, and whether it is as the paper has it.
-#[derive(Drop)]
+#[derive(Clone, Copy)]
 pub enum Entry {
     Ascii(bool),
     Ustty(bool),

@@ -4,14 +4,14 @@ ghost use Rattle.laws.specs.Written.{fronted};
 ghost use Rattle.entries.specs.Text.{before_bar, after_bar, digit, hex, escaped, decimal, first_piece, decoded};
 
 // How bytes are spelled: each as itself or by an escape, or each in decimal after a space.
-#[derive(Drop)]
+#[derive(Clone, Copy)]
 pub enum Form {
     Escaped,
     Decimal,
 }
 
 // A byte that a text begins with, and how many bytes it is spelled with.
-#[derive(Drop)]
+#[derive(Clone, Copy)]
 pub struct Piece {
     pub byte: u8,
     pub width: usize,

@@ -8,7 +8,7 @@ use step::states::with_stored;
 use step::{State, Stream};
 
 // What the next call starts with: the box, the room of the two buffers that it lends, and the count taken so far.
-#[derive(Drop)]
+#[derive(Clone, Copy)]
 pub struct Start {
     pub state: State,
     pub first: u8,
@@ -17,7 +17,7 @@ pub struct Start {
 }
 
 // What a line is: no vector, or one that is as expected or differs.
-#[derive(Drop)]
+#[derive(Clone, Copy)]
 pub enum Verdict {
     Other,
     Same,
@@ -25,7 +25,7 @@ pub enum Verdict {
 }
 
 // What a line is, and what the next one starts with.
-#[derive(Drop)]
+#[derive(Clone, Copy)]
 pub struct Ran {
     pub verdict: Verdict,
     pub next: Start,

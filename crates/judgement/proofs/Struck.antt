@@ -172,7 +172,7 @@ kind_hits {w} {p} {s} n (Char bell) f = char_hits n p.count bell (shown_by w.fel
 -- what is judged to be struck at a place, the printer with a stop strikes there
 pub struck_there : {w : Watch} {p : Printer} {s : Case} (n : ℕ) (cs : List ℕ) → Fits w p s → struck_at n w cs ≤ times n (prints_all_stop w.stop p cs)
 struck_there n [] f = omega arith
-struck_there {w} {p} {s} n (c ∷ cs) f = omega (arith, kind_hits n (kind_of c) f, struck_there n cs (fits c f), prints_times w.stop n p c cs)
+struck_there {w} {p} {s} n (c ∷ cs) f = omega (arith, kind_hits n (kind_of c) f, struck_there {w = watch w c} n cs (fits c f), prints_times w.stop n p c cs)
 
 -- between two returns what lands before the stop is not struck over
 pub before_stop : {w : Watch} {p : Printer} {s : Case} (n : ℕ) (l : Line) (cs : List ℕ) → Fits w p s → NoReturn cs → n < w.stop → n < length l.stand → get_or l.stand n 0 ≡ 0 → get_or (line_of w l cs).stand n 0 ≡ 3 → ⊥

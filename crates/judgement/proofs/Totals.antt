@@ -76,7 +76,7 @@ reached_sum g [] f l = sym (sum_none 256 (λ n. 0 * g n) (λ n h. zero-mul (g n)
 reached_sum {w} {p} {s} g (c ∷ cs) f l =
     let x = lands w (kind_of c) in
     let a = weigh_sum g x (short (kind_of c) f l) in
-    let b = reached_sum g cs (fits c f) l in
+    let b = reached_sum {w = watch w c} g cs (fits c f) l in
     let d = sum_add 256 (λ n. lands_at n x * g n) (λ n. struck_at n (watch w c) cs * g n) in
     let e = sum_same 256 (λ n. lands_at n x * g n + struck_at n (watch w c) cs * g n) (λ n. (lands_at n x + struck_at n (watch w c) cs) * g n) (λ n h. sym (add-mul (lands_at n x) (struck_at n (watch w c) cs) (g n))) in
     omega (arith, a, b, d, e)
@@ -202,7 +202,7 @@ there l was w c cs m h b e =
 
 all_met : {w : Watch} {p : Printer} {s : Case} (l : Line) (was : ℕ → ℕ) (cs : List ℕ) → Fits w p s → w.stop < 256 → Leave l was w cs → AllMet (λ n. get_or l.stand n 0) w cs
 all_met l was [] f b h = tt
-all_met {w} {p} {s} l was (c ∷ cs) f b h = (go (lands w (kind_of c)) refl, all_met l (λ n. stand_at n (lands w (kind_of c)) (was n) (own w (kind_of c))) cs (fits c f) b h)
+all_met {w} {p} {s} l was (c ∷ cs) f b h = (go (lands w (kind_of c)) refl, all_met {w = watch w c} l (λ n. stand_at n (lands w (kind_of c)) (was n) (own w (kind_of c))) cs (fits c f) b h)
   where
     go : (x : Landing) → lands w (kind_of c) ≡ x → Met (λ n. get_or l.stand n 0) x
     go Nowhere e = tt
@@ -212,7 +212,7 @@ all_met {w} {p} {s} l was (c ∷ cs) f b h = (go (lands w (kind_of c)) refl, all
 -- how many codes are judged so, by how their places stand
 judged_by : {w : Watch} {p : Printer} {s : Case} (v : ℕ) (l : Line) (was : ℕ → ℕ) (cs : List ℕ) → eqb 0 v ≡ false → Fits w p s → w.stop < 256 → Leave l was w cs → judged v w l cs ≡ reached (λ n. one (eqb (standing l.strays (get_or l.stand n 0)) v)) w cs + drifting (eqb 4 v) w cs
 judged_by v l was [] z f b h = refl
-judged_by {w} {p} {s} v l was (c ∷ cs) z f b h = omega (arith, go (lands w (kind_of c)) refl, judged_by v l (λ n. stand_at n (lands w (kind_of c)) (was n) (own w (kind_of c))) cs z (fits c f) b h)
+judged_by {w} {p} {s} v l was (c ∷ cs) z f b h = omega (arith, go (lands w (kind_of c)) refl, judged_by {w = watch w c} v l (λ n. stand_at n (lands w (kind_of c)) (was n) (own w (kind_of c))) cs z (fits c f) b h)
   where
     go : (x : Landing) → lands w (kind_of c) ≡ x → one (eqb (number_of (final l x (own w (kind_of c)))) v) ≡ weigh (λ n. one (eqb (standing l.strays (get_or l.stand n 0)) v)) x + drift (eqb 4 v) x
     go Nowhere e = rw (nowhere w (kind_of c) e, z)

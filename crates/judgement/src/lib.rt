@@ -1,5 +1,7 @@
 // What can be kept of a paper record: the printer with a right stop, and the judgement of each code of a record. The carriage
 // stays at the stop, and what is struck there lands there.
+#![tactic(auto)]
+
 use code::Case;
 
 pub mod lines;
@@ -8,21 +10,21 @@ mod strikes;
 mod watches;
 
 // What is known of a case.
-#[derive(Drop)]
+#[derive(Clone, Copy)]
 pub enum Known {
     Unknown,
     Is(Case),
 }
 
 // What is known of the carriage's place: it is there, or it is there or further on.
-#[derive(Drop)]
+#[derive(Clone, Copy)]
 pub enum Spot {
     At(u8),
     From(u8),
 }
 
 // Where a code is struck. Somewhere: at that place or further on, or perhaps not at all.
-#[derive(Drop)]
+#[derive(Clone, Copy)]
 pub enum Landing {
     Nowhere,
     There(u8),
@@ -30,14 +32,14 @@ pub enum Landing {
 }
 
 // A character, where it can be known.
-#[derive(Drop)]
+#[derive(Clone, Copy)]
 pub enum Sign {
     Unknown,
     Is(u8),
 }
 
 // Whether what a code was to print stands on the paper.
-#[derive(Drop)]
+#[derive(Clone, Copy)]
 pub enum Verdict {
     Nothing,
     Kept,
@@ -47,7 +49,7 @@ pub enum Verdict {
 }
 
 // Whether a code was taken. A code over 31 is none.
-#[derive(Drop)]
+#[derive(Clone, Copy)]
 pub enum Answer {
     Taken,
     NoCode,
@@ -55,7 +57,7 @@ pub enum Answer {
 
 // What is known of the sender and of the printer: the case of the shifts alone, whether the printer fell back to letters since
 // the last of them, the carriage's place; and the printer's stop and on what it unshifts by itself.
-#[derive(Drop)]
+#[derive(Clone, Copy)]
 pub struct Watch {
     pub meant: Known,
     pub fell: bool,
@@ -66,7 +68,7 @@ pub struct Watch {
 }
 
 // A code by itself: where it is struck, what is struck, and whether that was meant.
-#[derive(Drop)]
+#[derive(Clone, Copy)]
 pub struct Strike {
     pub lands: Landing,
     pub sign: Sign,
@@ -74,7 +76,7 @@ pub struct Strike {
 }
 
 // The judgement of a code: what the sender meant, what the printer struck, and whether it stands.
-#[derive(Drop)]
+#[derive(Clone, Copy)]
 pub struct Judgement {
     pub meant: Sign,
     pub struck: Sign,
@@ -82,7 +84,7 @@ pub struct Judgement {
 }
 
 // How many codes were judged so.
-#[derive(Drop)]
+#[derive(Clone, Copy)]
 pub struct Tally {
     pub kept: u64,
     pub turned: u64,
@@ -92,7 +94,7 @@ pub struct Tally {
 
 // A line of the paper. At each place: what is seen, and the number of its verdict, 0 where nothing was struck. What is struck at
 // a place that is not known drifts: it is held by the first place that it may be at. With it, how many of each there were.
-#[derive(Drop)]
+#[derive(Clone, Copy)]
 pub struct Line {
     pub ink: [u8; 256],
     pub stand: [u8; 256],
@@ -102,7 +104,7 @@ pub struct Line {
 }
 
 // The page as far as the record was read: what is known, the line that is not ended, and the totals of those that are.
-#[derive(Drop)]
+#[derive(Clone, Copy)]
 pub struct Page {
     pub watch: Watch,
     pub line: Line,
@@ -110,14 +112,14 @@ pub struct Page {
 }
 
 // The page after a code.
-#[derive(Drop)]
+#[derive(Clone, Copy)]
 pub struct Heard {
     pub answer: Answer,
     pub page: Page,
 }
 
 // The page after the codes that were taken.
-#[derive(Drop)]
+#[derive(Clone, Copy)]
 pub struct Run {
     pub answer: Answer,
     pub taken: usize,

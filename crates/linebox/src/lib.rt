@@ -1,4 +1,6 @@
 // The box: three calls, four answers.
+#![tactic(auto)]
+
 ghost use Rattle.std.specs.Prelude.{◌≡◌};
 ghost use Rattle.linebox.specs.Call.{number_of};
 
@@ -9,7 +11,7 @@ use step::State;
 
 // How a call ends: all bytes taken, no room for the next byte's output, a next byte that is no code, or a state that is not
 // sound.
-#[derive(Drop)]
+#[derive(Clone, Copy)]
 pub enum Answer {
     All,
     NoRoom,
@@ -30,7 +32,7 @@ pub fn number_of(a: Answer) -> u32
 }
 
 // A run of bytes that wrote to the first buffer alone: the state after it, how many bytes they were, and how many places were written.
-#[derive(Drop)]
+#[derive(Clone, Copy)]
 pub struct Ran {
     pub state: State,
     pub taken: usize,
@@ -38,7 +40,7 @@ pub struct Ran {
 }
 
 // What a call gives: its answer, how many bytes it took, how many it wrote to each lent buffer in the order lent, and the state.
-#[derive(Drop)]
+#[derive(Clone, Copy)]
 pub struct Called {
     pub answer: Answer,
     pub taken: usize,

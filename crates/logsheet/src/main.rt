@@ -1,12 +1,14 @@
 // The log sheet: standard input to a fresh box as host bytes. Prints the codes that go to the line, and how many bytes go back
 // to the host.
+#![tactic(auto)]
+
 ghost use Rattle.std.specs.Prelude.{◌≤◌, length};
 
 use libc::{STDIN_FILENO, STDOUT_FILENO};
 use step::State;
 
 // The box and how many bytes went to the host, while the input goes on; false where writing failed.
-#[derive(Drop)]
+#[derive(Clone, Copy)]
 struct Sheet {
     state: State,
     host: u64,
@@ -45,7 +47,7 @@ fn feed(t: Sheet, rest: &[u8]) -> Fed {
 }
 
 // What one call took, and the sheet after it.
-#[derive(Drop)]
+#[derive(Clone, Copy)]
 struct Fed {
     taken: usize,
     sheet: Sheet,
@@ -74,7 +76,7 @@ fn feed_all(start: Sheet, input: &[u8]) -> Sheet {
 }
 
 // What reading once gave: more input, its end, or a failure to read or to write.
-#[derive(Drop)]
+#[derive(Clone, Copy)]
 enum More {
     Yes,
     End,
@@ -83,7 +85,7 @@ enum More {
 }
 
 // The sheet, and whether the input goes on.
-#[derive(Drop)]
+#[derive(Clone, Copy)]
 struct Told {
     more: More,
     sheet: Sheet,

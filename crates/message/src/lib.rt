@@ -1,4 +1,6 @@
 // Status messages: made into a lent buffer, and found among any bytes.
+#![tactic(auto)]
+
 ghost use Rattle.std.specs.Prelude.{◌≡◌, ◌+◌, ◌≤◌, length, drop};
 ghost use Rattle.message.specs.Message.{digits, numbers, framed};
 ghost use Rattle.message.specs.Made.{field, made_count, Made, Put};
@@ -7,7 +9,7 @@ ghost use Rattle.message.specs.Located.{Located, HandsBack};
 
 // How many of the numbers of a message are read: none, the id, or also the second, which says how many have to come yet. Over:
 // more came than it said.
-#[derive(Drop)]
+#[derive(Clone, Copy)]
 pub enum Phase {
     First,
     Second,
@@ -17,7 +19,7 @@ pub enum Phase {
 
 // How far the numbers of a message are read, byte by byte. Opening: a comma has to come. Comma: a digit has to come. In: in a
 // number, of this value so far. Bad: not the numbers of a message.
-#[derive(Drop)]
+#[derive(Clone, Copy)]
 pub enum Scan {
     Bad,
     Opening,
@@ -26,14 +28,14 @@ pub enum Scan {
 }
 
 // Whether complete numbers stand somewhere, and how many bytes they take.
-#[derive(Drop)]
+#[derive(Clone, Copy)]
 pub enum Numbers {
     Nothing,
     Bytes(usize),
 }
 
 // The stretch of a message, from its hyphen to its last digit; both are 0 where there is none.
-#[derive(Drop)]
+#[derive(Clone, Copy)]
 pub struct Place {
     pub start: usize,
     pub len: usize,

@@ -1,11 +1,13 @@
 // The motor: the last codes heard, held against the strings that start and stop it.
+#![tactic(auto)]
+
 ghost use Rattle.std.specs.Prelude.{◌≡◌, ◌≤◌};
 ghost use Rattle.motor.specs.Motor.{heard_with, size, latest, matches, comes, starts, later, while_on, while_off, turned, hearing, is_on, resting, sound_run, sound_motor};
 
 use settings::Calling;
 
 // Whether it runs: off; off, and the first string 93 that counts ended so many codes ago, staying at 8; on.
-#[derive(Drop)]
+#[derive(Clone, Copy)]
 pub enum Run {
     Off,
     Called(u8),
@@ -13,7 +15,7 @@ pub enum Run {
 }
 
 // The last eight codes heard as one number, the last one highest and 0 where none was, and whether the motor runs.
-#[derive(Drop)]
+#[derive(Clone, Copy)]
 pub struct Motor {
     pub heard: u64,
     pub run: Run,

@@ -1,5 +1,7 @@
 // Shows a record as it stood on the paper of a printer with a right stop, and what of it can be kept. The codes come from
 // standard input, and the printer is described by the arguments.
+#![tactic(auto)]
+
 mod options;
 mod reading;
 mod show;

@@ -8,7 +8,7 @@ use judgement::{Known, Spot};
 use words::{Setting, arguments};
 
 // What the arguments say; not good where one of them is none.
-#[derive(Drop)]
+#[derive(Clone, Copy)]
 pub struct Options {
     pub case: Known,
     pub spot: Spot,

@@ -6,7 +6,7 @@ use judgement::{Page, pages};
 use words::{Item, Reader};
 
 // The record as far as it was read: the words, the page, the number of its line, and whether to go on.
-#[derive(Drop)]
+#[derive(Clone, Copy)]
 pub struct Record {
     pub reader: Reader,
     pub page: Page,

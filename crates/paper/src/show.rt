@@ -5,7 +5,7 @@ ghost use Rattle.paper.specs.Show.{marked, size_from, inked, spaced, has, no_str
 use judgement::Line;
 
 // A run of places that stand alike, with bare ones between them: whether one is held, from where to where.
-#[derive(Drop)]
+#[derive(Clone, Copy)]
 pub struct Stretch {
     pub held: bool,
     pub from: usize,

@@ -1,8 +1,10 @@
 // The printer of demand 3, defined apart from the box (specs/Printer.antt): definitions alone, and no code.
+#![tactic(auto)]
+
 use code::Case;
 
 // A case, a count of places since the last return, and whether it goes back to letters by itself on a space and on a return.
-#[derive(Drop)]
+#[derive(Clone, Copy)]
 pub struct Printer {
     pub case: Case,
     pub count: u64,
@@ -11,14 +13,14 @@ pub struct Printer {
 }
 
 // Where a character lands, if it does.
-#[derive(Drop)]
+#[derive(Clone, Copy)]
 pub enum Place {
     Nowhere,
     At(u64),
 }
 
 // A character on the paper.
-#[derive(Drop)]
+#[derive(Clone, Copy)]
 pub struct Mark {
     pub character: u8,
     pub lands: Place,

@@ -93,7 +93,7 @@ module _ (o : Settings) (start : Sender) (first : Asks) (until : Until) (bytes o
 -- no more bytes than there are
 pub run_within : (o : Settings) (s : Sender) (asks : Asks) (until : Until) (bs : List ℕ) (room : ℕ) → (run_of o s asks until bs room).taken ≤ length bs
 run_within o s asks until [] room = omega arith
-run_within o s asks until (b ∷ bs) room = go (stops_at until b) (leb most room) (run_within o _ _ until bs _)
+run_within o s asks until (b ∷ bs) room = go (stops_at until b) (leb most room) (run_within o (after_items o s (wanted_by o asks b)) (asks_next o asks b) until bs (room - length (items o s (wanted_by o asks b))))
   where
     go : (halts fits : Bool)
         → (let ws = wanted_by o asks b in (run_of o (after_items o s ws) (asks_next o asks b) until bs (room - length (items o s ws))).taken ≤ length bs)

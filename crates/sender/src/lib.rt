@@ -1,5 +1,7 @@
 // Sending to the line: the record of the printer's case and column, and the codes that bytes go out as, written straight into a
 // buffer that has room for them.
+#![tactic(auto)]
+
 use code::Case;
 
 mod codes;
@@ -9,56 +11,56 @@ mod records;
 pub mod runs;
 
 // What the record says of the printer's case.
-#[derive(Drop)]
+#[derive(Clone, Copy)]
 pub enum Known {
     Unknown,
     Is(Case),
 }
 
 // What the record says of the printer's column, which stays at 255.
-#[derive(Drop)]
+#[derive(Clone, Copy)]
 pub enum Column {
     Unknown,
     At(u8),
 }
 
 // The record of the printer.
-#[derive(Drop)]
+#[derive(Clone, Copy)]
 pub struct Record {
     pub case: Known,
     pub column: Column,
 }
 
 // The last item, as option 72 asks of it: a shift, or any other or none.
-#[derive(Drop)]
+#[derive(Clone, Copy)]
 pub enum Last {
     Other,
     Shift(Case),
 }
 
 // A code asked for, in a case.
-#[derive(Drop)]
+#[derive(Clone, Copy)]
 pub struct Wanted {
     pub case: Case,
     pub code: u8,
 }
 
 // The record and the last item.
-#[derive(Drop)]
+#[derive(Clone, Copy)]
 pub struct Sender {
     pub held: Record,
     pub last: Last,
 }
 
 // How the bytes of a stream ask for items: host text by its code or the stand-in's, TU codes in the incoming reading case.
-#[derive(Drop)]
+#[derive(Clone, Copy)]
 pub enum Asks {
     Text,
     Codes(Case),
 }
 
 // What stops a run of bytes, beside want of room: nothing, a byte, or any byte above one.
-#[derive(Drop)]
+#[derive(Clone, Copy)]
 pub enum Until {
     Never,
     Byte(u8),
@@ -66,21 +68,21 @@ pub enum Until {
 }
 
 // Codes that went out: the record after them, and how many they are.
-#[derive(Drop)]
+#[derive(Clone, Copy)]
 pub struct Noted {
     pub held: Record,
     pub count: usize,
 }
 
 // An item that went out: the sender after it, and how many codes it was.
-#[derive(Drop)]
+#[derive(Clone, Copy)]
 pub struct Item {
     pub sender: Sender,
     pub count: usize,
 }
 
 // Bytes that went out: the sender after them and how the next ones ask, how many bytes they are, and how many codes they were.
-#[derive(Drop)]
+#[derive(Clone, Copy)]
 pub struct Sent {
     pub sender: Sender,
     pub asks: Asks,

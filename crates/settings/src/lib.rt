@@ -1,4 +1,6 @@
 // The settings, how a station is called, and the connection: what is sound, and what a finished command reads, writes and answers.
+#![tactic(auto)]
+
 ghost use Rattle.std.specs.Prelude.{◌≡◌, ◌&&◌};
 ghost use Rattle.settings.specs.Table.{factory, factory_calling, sound_settings, sound_calling, sound_connection};
 ghost use Rattle.settings.specs.Command.{succeeded, refused, commanded};
@@ -19,21 +21,21 @@ mod string;
 mod table;
 
 // The settings: string 90, the line ending, as a word, and the value of each option in the table's order.
-#[derive(Drop)]
+#[derive(Clone, Copy)]
 pub struct Settings {
     pub string: u64,
     pub values: [u8; 7],
 }
 
 // How a station is called: strings 91 to 95 as words, in that order, and the motor power mode, id 53.
-#[derive(Drop)]
+#[derive(Clone, Copy)]
 pub struct Calling {
     pub strings: [u64; 5],
     pub power: u8,
 }
 
 // The connection: its mode, which is the id that writes it, and its port and speed, 0 where the mode has none.
-#[derive(Drop)]
+#[derive(Clone, Copy)]
 pub struct Connection {
     pub mode: u8,
     pub port: u8,
@@ -43,7 +45,7 @@ pub struct Connection {
 // Where the values of an id are, and their range: the version, a connection with a port up to the last and a speed or with neither, an
 // option's place with its least and its greatest value, string 90, the motor power mode, one of strings 91 to 95 by its place, all to
 // factory, or nowhere.
-#[derive(Drop)]
+#[derive(Clone, Copy)]
 pub enum Home {
     Version,
     Linked(u8),
@@ -57,7 +59,7 @@ pub enum Home {
 }
 
 // A row of the table: the id's number, where its values are, and whether it can be written and read.
-#[derive(Drop)]
+#[derive(Clone, Copy)]
 pub struct Row {
     pub number: u8,
     pub home: Home,
@@ -66,14 +68,14 @@ pub struct Row {
 }
 
 // How many parameters an id takes, if the command's type has it.
-#[derive(Drop)]
+#[derive(Clone, Copy)]
 pub enum Takes {
     Nothing,
     Count(u8),
 }
 
 // What is wrong with a command: nothing, its type, its id, its number of parameters, its checksum, or a value.
-#[derive(Drop)]
+#[derive(Clone, Copy)]
 pub enum Fault {
     Nothing,
     Type,
@@ -85,7 +87,7 @@ pub enum Fault {
 
 // The settings and the connection after a command, whether a connection was written, how a station is called, and whether the motor goes
 // off and forgets what was heard.
-#[derive(Drop)]
+#[derive(Clone, Copy)]
 pub struct Stored {
     pub settings: Settings,
     pub connection: Connection,
@@ -95,7 +97,7 @@ pub struct Stored {
 }
 
 // What a command does, and the numbers of its answer, of which there are `count`; the places after them hold 0.
-#[derive(Drop)]
+#[derive(Clone, Copy)]
 pub struct Outcome {
     pub stored: Stored,
     pub numbers: [u8; 10],

@@ -1,4 +1,6 @@
 // The text of a log sheet, which is all that "sheet" stands for: codes in decimal, each after a space.
+#![tactic(auto)]
+
 ghost use Rattle.std.specs.Prelude.{◌≡◌, ◌≤◌, length};
 ghost use Rattle.laws.specs.Written.{fronted};
 ghost use Rattle.sheet.specs.Words.{word, Spells};

@@ -15,7 +15,7 @@ use crate::{State, Taken};
 use command::{Out, Step};
 
 // A byte of text, and from where on it is text with a `/` before it: 0 where that was held, 1 where it was not, 2 where there is no text.
-#[derive(Drop)]
+#[derive(Clone, Copy)]
 struct Said {
     from: usize,
     byte: u8,

@@ -1,4 +1,5 @@
 // What one byte does: the state after it, and its output in the free parts of the lent buffers.
+#![tactic(auto)]
 
 mod answers;
 pub mod hears;
@@ -17,7 +18,7 @@ use sender::Sender;
 use settings::{Calling, Connection, Settings};
 
 // Where a byte comes from.
-#[derive(Drop)]
+#[derive(Clone, Copy)]
 pub enum Stream {
     Host,
     Line,
@@ -25,7 +26,7 @@ pub enum Stream {
 }
 
 // Where the bytes of a stream go: nowhere, to the printer, to the host or to the TU.
-#[derive(Drop)]
+#[derive(Clone, Copy)]
 pub enum Route {
     Dropped,
     ToPrinter,
@@ -35,7 +36,7 @@ pub enum Route {
 
 // All that the box knows. The fields' sizes: settings 15, connection 3, sender 6 (record 4, last item 2), the two cases 2, the
 // command reader 15, how a station is called 41, the motor 10: 92 bytes.
-#[derive(Drop)]
+#[derive(Clone, Copy)]
 pub struct State {
     pub settings: Settings,
     pub connection: Connection,
@@ -48,7 +49,7 @@ pub struct State {
 }
 
 // The motor after one byte's items, its port, and whether it was on (1) or off (0) before them, between them and after them.
-#[derive(Drop)]
+#[derive(Clone, Copy)]
 pub struct Heard {
     pub motor: Motor,
     pub port: u8,
@@ -58,7 +59,7 @@ pub struct Heard {
 }
 
 // One byte's output put into one buffer: the state after the byte, how many places were written, and whether all of it fits.
-#[derive(Drop)]
+#[derive(Clone, Copy)]
 pub struct Took {
     pub state: State,
     pub count: usize,
@@ -66,7 +67,7 @@ pub struct Took {
 }
 
 // One byte's output put into both buffers: the state after the byte, how many places were written, and whether all of it fits.
-#[derive(Drop)]
+#[derive(Clone, Copy)]
 pub struct Taken {
     pub state: State,
     pub first: usize,

@@ -4,6 +4,8 @@
 // bytes that come of them; `L` line codes, and host bytes and TU codes; `T` TU codes, and line codes and host bytes; `F` bytes, and
 // the message found in them. A call takes all of its input, unless one field more has its answer and the count taken. `R` has the
 // next call's two rooms and the count taken so far; `Z` puts a number into setting 50 behind the box's back.
+#![tactic(auto)]
+
 ghost use Rattle.std.specs.Prelude.{◌≤◌, length};
 
 use entries::tables::{Entry, run_entry};
@@ -17,14 +19,14 @@ use linebox::Called;
 use step::Stream;
 
 // How many vectors of a kind were run, and how many differ.
-#[derive(Drop)]
+#[derive(Clone, Copy)]
 struct Tally {
     run: u64,
     differ: u64,
 }
 
 // What was run of each kind, and what the next line starts with.
-#[derive(Drop)]
+#[derive(Clone, Copy)]
 struct Tallies {
     ascii: Tally,
     ustty: Tally,

@@ -1,4 +1,6 @@
 // A string in one word: eight codes of five bits, the first one lowest, and the upper 24 of 64 bits zero.
+#![tactic(auto)]
+
 ghost use Rattle.std.specs.Prelude.{◌≡◌, ◌+◌, ◌*◌, ◌<◌};
 ghost use Rattle.word.specs.Word.{unpacked, packed, is_word};
 

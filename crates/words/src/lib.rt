@@ -1,12 +1,14 @@
 // Reads the arguments, and the words of a record, a byte at a time: codes in decimal with white space between, or a log sheet, where `line` stands
 // before them and `host` ends them.
+#![tactic(auto)]
+
 ghost use Rattle.std.specs.Prelude.{◌≡◌, ◌≤◌};
 ghost use Rattle.words.specs.Words.{white, value, one_digit, two_digits, is_named, named, word_of, item_at, phase_after, fresh, next, settled, finish, more, read};
 
 pub mod arguments;
 
 // What an argument says.
-#[derive(Drop)]
+#[derive(Clone, Copy)]
 pub enum Setting {
     Stop(u8),
     Place(u8),
@@ -22,7 +24,7 @@ pub enum Setting {
 }
 
 // How far the record was read: not at all, codes alone, the codes of a log sheet, or past its `host`.
-#[derive(Drop)]
+#[derive(Clone, Copy)]
 pub enum Phase {
     Start,
     Bare,
@@ -31,7 +33,7 @@ pub enum Phase {
 }
 
 // What a word is by itself.
-#[derive(Drop)]
+#[derive(Clone, Copy)]
 pub enum Word {
     Code(u8),
     Line,
@@ -40,7 +42,7 @@ pub enum Word {
 }
 
 // What a word is where it stands. Bad: it is no code, and has no other place there.
-#[derive(Drop)]
+#[derive(Clone, Copy)]
 pub enum Item {
     Nothing,
     Code(u8),
@@ -48,7 +50,7 @@ pub enum Item {
 }
 
 // The bytes of the word that is being read, up to 16 of them, how many they are, up to 17, and which word it is.
-#[derive(Drop)]
+#[derive(Clone, Copy)]
 pub struct Reader {
     pub held: [u8; 16],
     pub size: usize,
@@ -57,7 +59,7 @@ pub struct Reader {
 }
 
 // The reader after a byte, and what was read.
-#[derive(Drop)]
+#[derive(Clone, Copy)]
 pub struct Read {
     pub reader: Reader,
     pub item: Item,
