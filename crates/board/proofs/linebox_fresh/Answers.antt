@@ -1,0 +1,7 @@
+-- `board::linebox_fresh` meets its contract.
+use mathlib.Core.Path.{refl}
+use borrow.Author.Rules.{rules}
+use Rattle.board.proofs.linebox_fresh.Goals as goal
+
+pub returns : goal.returns
+returns c = (refl, rw (c.save.ensures, c.fresh.ensures))

@@ -1,0 +1,10 @@
+-- `board::open_state` meets its contract: the bytes are compared with the spelling of the state that they read as.
+use Rattle.spelling.specs.Spelling.{spells}
+use borrow.Author.Rules.{rules}
+use Rattle.board.proofs.open_state.Goals as goal
+
+pub returns : goal.returns
+unfolding spells
+returns c =
+    let e = c.state_of-state.ensures in
+    (rw (c.is_spelling.ensures, c.is_sound.ensures, e), e)

@@ -1,0 +1,6 @@
+-- `code::moves` meets its contract: each kind has its case of `moves`.
+use borrow.Author.Rules.{rules}
+use Rattle.code.proofs.moves.Goals as goal
+
+pub returns-in-Char : goal.returns-in-Char
+returns-in-Char c = simp (c.in-Char.is, c.strikes.ensures)

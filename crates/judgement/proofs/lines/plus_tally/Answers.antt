@@ -1,0 +1,6 @@
+-- `judgement::lines::plus_tally` meets its contract: each count is the sum of two.
+use borrow.Author.Rules.{rules}
+use Rattle.judgement.proofs.lines.plus_tally.Goals as goal
+
+pub returns : goal.returns
+returns c = simp (c.plus-4.ensures, c.plus-3.ensures, c.plus-2.ensures, c.plus.ensures)

@@ -1,0 +1,15 @@
+-- `judgement::lines::standing` meets its contract: each test picks its case of `standing`.
+use borrow.Author.Tests.{eq-eqb, ne_eqb}
+use Rattle.judgement.proofs.lines.standing.Goals as goal
+
+pub returns-then-stand-eq0 : goal.returns-then-stand-eq0
+returns-then-stand-eq0 c = simp (eq-eqb _ _ c.if-stand-eq0.true)
+
+pub returns-then-stand-eq3 : goal.returns-then-stand-eq3
+returns-then-stand-eq3 c = simp (eq-eqb _ _ c.if-stand-eq3.true, ne_eqb _ _ c.if-stand-eq0.false)
+
+pub returns-then-strays-eq0 : goal.returns-then-strays-eq0
+returns-then-strays-eq0 c = simp (eq-eqb _ _ c.if-strays-eq0.true, ne_eqb _ _ c.if-stand-eq3.false, ne_eqb _ _ c.if-stand-eq0.false)
+
+pub returns-else-strays-eq0 : goal.returns-else-strays-eq0
+returns-else-strays-eq0 c = simp (ne_eqb _ _ c.if-strays-eq0.false, ne_eqb _ _ c.if-stand-eq3.false, ne_eqb _ _ c.if-stand-eq0.false)

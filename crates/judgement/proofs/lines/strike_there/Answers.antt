@@ -1,0 +1,6 @@
+-- `judgement::lines::strike_there` meets its contract: one place is set, by what stood there.
+use borrow.Author.Rules.{rules}
+use Rattle.judgement.proofs.lines.strike_there.Goals as goal
+
+pub returns : goal.returns
+returns c = simp (c.plus.ensures, c.stand_after.ensures, c.seen.ensures)

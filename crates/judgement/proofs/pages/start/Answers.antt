@@ -1,0 +1,6 @@
+-- `judgement::pages::start` meets its contract: the place is within the stop, and the rest is as given.
+use borrow.Author.Rules.{rules}
+use Rattle.judgement.proofs.pages.start.Goals as goal
+
+pub returns : goal.returns
+returns c = simp (c.none.ensures, c.bare.ensures, c.within.ensures)

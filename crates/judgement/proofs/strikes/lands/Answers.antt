@@ -1,0 +1,6 @@
+-- `judgement::strikes::lands` meets its contract: each case of the definition is one of the code.
+use borrow.Author.Rules.{rules}
+use Rattle.judgement.proofs.strikes.lands.Goals as goal
+
+pub returns-in-Char : goal.returns-in-Char
+returns-in-Char c = simp (c.in-Char.is, c.lands_char.ensures, c.shown.ensures)

@@ -1,0 +1,6 @@
+-- `judgement::strikes::sign_char` meets its contract: each case of the definition is one of the code.
+use borrow.Author.Rules.{rules}
+use Rattle.judgement.proofs.strikes.sign_char.Goals as goal
+
+pub returns-in-Is : goal.returns-in-Is
+returns-in-Is c = simp (c.in-Is.is, c.row_at.ensures)

@@ -1,0 +1,6 @@
+-- `judgement::watches::watch` meets its contract: each case of the definition is one of the code.
+use borrow.Author.Rules.{rules}
+use Rattle.judgement.proofs.watches.watch.Goals as goal
+
+pub returns : goal.returns
+returns c = simp (c.spot_after.ensures, c.fell_after.ensures, c.meant_after.ensures, c.kind_of-k.ensures)

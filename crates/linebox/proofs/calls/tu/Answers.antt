@@ -1,0 +1,13 @@
+-- `linebox::calls::tu` meets its contract: a sound state is taken on, and any other answered 3.
+use mathlib.Core.Path.{refl, sym, ◌∙◌}
+use borrow.Author.Rules.{rules}
+use Rattle.linebox.proofs.calls.tu.Goals as goal
+
+pub take_tu-requires : goal.take_tu-requires
+take_tu-requires c = sym c.is_sound.ensures ∙ c.if-is_sound.true
+
+pub returns-then-is_sound : goal.returns-then-is_sound
+returns-then-is_sound c = rw (sym c.is_sound.ensures ∙ c.if-is_sound.true) (rw c.rest.ensures at c.take_tu.ensures)
+
+pub returns-else-is_sound : goal.returns-else-is_sound
+returns-else-is_sound c = rw (sym c.is_sound.ensures ∙ c.if-is_sound.false, c.ended.ensures) (record { gives = refl; one = refl; two = refl })

@@ -1,0 +1,6 @@
+-- Each case by its clause.
+use borrow.Author.Rules.{rules}
+use Rattle.message.proofs.whole.Goals as goal
+
+pub returns-in-Rest : goal.returns-in-Rest
+returns-in-Rest c = simp c.in-Rest.is

@@ -1,0 +1,8 @@
+-- `motor::is_sound` meets its contract: its two tests are the definition's.
+use borrow.Author.Rules.{rules}
+use Rattle.motor.specs.Motor.{sound_motor}
+use Rattle.motor.proofs.is_sound.Goals as goal
+
+pub returns : goal.returns
+unfolding sound_motor
+returns c = rw (c.before.is_IsWord.ensures, c.sound_run.ensures)

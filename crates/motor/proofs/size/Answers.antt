@@ -1,0 +1,23 @@
+-- `motor::size` meets its contract. The loop's invariant: the codes counted and those left are the string's.
+use Prim.Native.Nat.{◌-◌}
+use borrow.Author.Rules.{rules}
+use Rattle.motor.proofs.Walks.{Counted, none_counted, one_counted, none_left, all_counted}
+use Rattle.motor.proofs.size.Goals as goal
+
+pub loop-n-init : goal.loop-n-init
+loop-n-init c = none_counted c.args.string
+
+pub returns-then-rest-eq0 : goal.returns-then-rest-eq0
+returns-then-rest-eq0 c =
+    let l = c.loop-n in
+    (none_left c.args.string l.n l.rest l.invariant c.loop-n-test.true c.if-rest-eq0.true, l.invariant.within)
+
+pub loop-n-preserved : goal.loop-n-preserved
+loop-n-preserved c =
+    let l = c.loop-n in
+    one_counted c.args.string l.n l.rest l.invariant c.loop-n-test.true c.if-rest-eq0.false
+
+pub returns : goal.returns
+returns c =
+    let l = c.loop-n in
+    (all_counted c.args.string l.n l.rest l.invariant c.loop-n-test.false, l.invariant.within)

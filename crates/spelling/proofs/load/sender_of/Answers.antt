@@ -1,0 +1,6 @@
+-- `spelling::load::sender_of` meets its contract.
+use borrow.Author.Rules.{rules}
+use Rattle.spelling.proofs.load.sender_of.Goals as goal
+
+pub returns : goal.returns
+returns c = rw (c.before.before.before.before.before.Known-of.ensures, c.column_of.ensures, c.last_of.ensures)

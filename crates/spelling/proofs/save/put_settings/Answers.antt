@@ -1,0 +1,6 @@
+-- `spelling::save::put_settings` meets its contract.
+use borrow.Author.Rules.{rules}
+use Rattle.spelling.proofs.save.put_settings.Goals as goal
+
+pub returns : goal.returns
+returns c = rw c.put_word.ensures

@@ -1,0 +1,6 @@
+-- `spelling::save::run_bytes` meets its contract.
+use borrow.Author.Rules.{rules}
+use Rattle.spelling.proofs.save.run_bytes.Goals as goal
+
+pub returns-in-Called : goal.returns-in-Called
+returns-in-Called c = simp c.in-Called.is
