@@ -16,6 +16,7 @@ use Rattle.code.specs.Kinds.{kind_of}
 use Rattle.code.proofs.Laws.{no_code}
 use Rattle.code.proofs.Values.{six}
 use Rattle.code.proofs.kind_of.Goals as goal
+use Rattle.code.proofs.kind_of.Goals.{then-c-eq0-via-then-c-eq0, then-c-eq0-via-else-c-eq0+then-c-eq2, then-c-eq0-via-else-c-eq0+else-c-eq2+then-c-gt31}
 
 abbrev charred : Bool → Kind → Bool
 charred b Still = false
@@ -27,6 +28,16 @@ charred b (Char bell) = cond b bell (not bell)
 is_char : (b : Bool) (k : Kind) → T (charred b k) → Char b ≡ k
 is_char true (Char true) t = refl
 is_char false (Char false) t = refl
+is_char false Still t = elim t [ ]
+is_char false Space t = elim t [ ]
+is_char false Return t = elim t [ ]
+is_char false (Shift _) t = elim t [ ]
+is_char false (Char true) t = elim t [ ]
+is_char true Still t = elim t [ ]
+is_char true Space t = elim t [ ]
+is_char true Return t = elim t [ ]
+is_char true (Shift _) t = elim t [ ]
+is_char true (Char false) t = elim t [ ]
 
 others : ℕ → Bool
 others c = six c || charred (eqb c 5) (kind_of c)
@@ -62,11 +73,11 @@ returns-then-c-eq31 c = rw c.if-c-eq31.true
 pub returns-then-c-eq0 : goal.returns-then-c-eq0
 unfolding kind_of row_at
 returns-then-c-eq0 c =
-    let n = c.args.c in
-    ⊎_elim
-    (λ w. rw w.taken)
-    (⊎_elim (λ w. rw (eqb-true n 2 w.1.taken)) (λ w. none n (ltb-true 31 n w.2.taken)))
-    c.then-c-eq0.branch
+    elim c.then-c-eq0.branch [
+      then-c-eq0-via-then-c-eq0 w ↦ rw w.if-c-eq0.true
+      | then-c-eq0-via-else-c-eq0+then-c-eq2 w ↦ rw w.if-c-eq2.true
+      | then-c-eq0-via-else-c-eq0+else-c-eq2+then-c-gt31 w ↦ none c.args.c w.if-c-gt31.true
+    ]
 
 pub returns : goal.returns
 returns c =

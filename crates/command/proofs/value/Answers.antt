@@ -7,5 +7,5 @@ use Rattle.command.proofs.value.Goals as goal
 
 pub returns-else-last-lt11 : goal.returns-else-last-lt11
 returns-else-last-lt11 c =
-    let n : length c.args.t1 ≡ 11 = search rules in
-    sym (get_or-eq_default c.args.t1 0 {n = c.args.last} (omega arith))
+    let n : length c.args.values ≡ 11 = search rules in
+    sym (get_or-eq_default c.args.values 0 {n = c.args.last} (omega arith))

@@ -14,13 +14,9 @@ use Rattle.convert.proofs.look_up.Goals as goal
 size : (rows : List ℕ) → rows ≡ letters ++ figures → length rows ≡ 64
 size rows e = rw e
 
+-- the place that is found is that of the capital in the letters and the figures
 placed : (rows : List ℕ) (b x p : ℕ) → rows ≡ letters ++ figures → x ≡ capital b → p ≡ place_in rows x → p ≡ place_in (letters ++ figures) (capital b)
 placed rows b x p e f g = rw (e, f) at g
-
-place : (c : goal.After-place-in) → c.place_in.result ≡ place_in (letters ++ figures) (capital c.before.before.before.args.b)
-place c =
-    let s = c.before.before.before in
-    placed s.args.table.now s.args.b _ _ s.requires.lent c.before.capital.ensures c.place_in.ensures
 
 pub place_in-place-requires : goal.place_in-place-requires
 place_in-place-requires c =
@@ -28,10 +24,10 @@ place_in-place-requires c =
     omega (arith, n)
 
 pub returns-then-place-lt32 : goal.returns-then-place-lt32
-returns-then-place-lt32 c = c.found.ensures ∙ in_letters _ _ (place c) (search rules)
+returns-then-place-lt32 c = c.found.ensures ∙ in_letters _ _ (placed c.args.table.now c.args.b _ _ c.requires.lent c.capital.ensures c.place_in-place.ensures) (search rules)
 
 pub returns-then-place-lt64 : goal.returns-then-place-lt64
-returns-then-place-lt64 c = c.found-then-place-lt64.ensures ∙ in_figures _ _ (place c) (search rules) (search rules)
+returns-then-place-lt64 c = c.found-then-place-lt64.ensures ∙ in_figures _ _ (placed c.args.table.now c.args.b _ _ c.requires.lent c.capital.ensures c.place_in-place.ensures) (search rules) (search rules)
 
 pub returns : goal.returns
-returns c = in_neither _ _ (place c) (search rules)
+returns c = in_neither _ _ (placed c.args.table.now c.args.b _ _ c.requires.lent c.capital.ensures c.place_in-place.ensures) (search rules)

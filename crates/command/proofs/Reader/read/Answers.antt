@@ -19,7 +19,7 @@ pub returns-in-Lettered : goal.returns-in-Lettered
 returns-in-Lettered c = reads (simp c.in-Lettered.is (rw c.second.ensures at c.inside-in-Lettered.ensures))
 
 pub returns-in-Typed : goal.returns-in-Typed
-returns-in-Typed c = reads (simp c.in-Typed.is (rw c.before.type-inv.ensures at c.inside-in-Typed.ensures))
+returns-in-Typed c = reads (simp c.in-Typed.is (rw c.typed.ensures at c.inside-in-Typed.ensures))
 
 pub returns-in-Fields : goal.returns-in-Fields
 returns-in-Fields c = reads (simp c.in-Fields.is (rw (c.field.ensures, c.finish.ensures) at c.inside-in-Fields.ensures))
