@@ -12,4 +12,4 @@ returns-then-b-le122 c =
     simp (le-leb 97 b c.if-b-ge97.true, le-leb b 122 h)
 
 pub returns-else-b-ge97 : goal.returns-else-b-ge97
-returns-else-b-ge97 c = ⊎_elim (λ w. simp (le-leb _ _ w.0.taken, w.1.left)) (λ w. simp (lt-leb _ _ w.left)) c.else-b-ge97.branch
+returns-else-b-ge97 c = ⊎_elim (λ w. simp (le-leb 97 c.args.b w.0, lt-leb c.args.b 122 w.1)) (λ w. simp (lt-leb 97 c.args.b w)) c.else-b-ge97.either
