@@ -1,7 +1,7 @@
 -- Laws of the conversion over all bytes and all codes, each by one computed test.
 -- Assumes nothing.
 use Prim.Native.Nat.{ℕ, zero, suc, ◌+◌, ◌<◌}
-use mathlib.Core.Path.{◌≡◌, refl, ap, sym, ◌∙◌}
+use mathlib.Core.Path.{◌≡◌, refl, sym, ◌∙◌}
 use mathlib.Core.Bool.{Bool, true, false, cond, not, ◌&&◌, ◌||◌}
 use lib.Dec.{T, eqb, ltb, leb, eqb→eq}
 use Rattle.laws.proofs.Table.{upto, below}

@@ -1,5 +1,5 @@
 -- Host to line: a search through the two rows. Line to host is the row itself, `row_at`.
-use Rattle.std.specs.Prelude.{ℕ, suc, ◌-◌, Bool, true, false, cond, ◌&&◌, List, [], ◌∷◌, eqb, leb}
+use Rattle.std.specs.Prelude.{ℕ, suc, ◌-◌, cond, ◌&&◌, List, [], ◌∷◌, eqb, leb}
 use Rattle.code.specs.declared.Case.{Case}
 use Rattle.code.specs.declared.Case.TheVariants.{Letters, Figures}
 use Rattle.code.specs.declared.Conversion.{Conversion}

@@ -8,7 +8,7 @@ use native.Mathlib.Nat.{zero-add}
 use borrow.Rule.Slice.PartMut.{put_mid, mid_of}
 use lib.ListN.{length, length-append, length-drop}
 use lib.Seq.{sets, sets-eq, length-sets}
-use Rattle.laws.specs.Written.{written, fronted, Filled}
+use Rattle.laws.specs.Written.{fronted, Filled}
 use Rattle.laws.proofs.Tail.{to_end, written_none, lent, fronted_more, length_fronted}
 
 -- the part still free

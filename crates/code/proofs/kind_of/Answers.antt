@@ -2,10 +2,9 @@
 -- the other codes below 32 shows that each depends on case and that BELL is 5's.
 use mathlib.Core.Path.{◌≡◌, refl}
 use mathlib.Core.Bool.{Bool, true, false, not, cond, ◌||◌}
-use mathlib.Core.Logic.{⊎_elim}
 use Prim.Native.Nat.{ℕ, ◌<◌}
 use native.Mathlib.Omega.{arith}
-use borrow.Author.Tests.{ne_eqb, eqb-true, ltb-true, ltb-false}
+use borrow.Author.Tests.{ne_eqb, ltb-false}
 use lib.Dec.{T, eqb}
 use Rattle.laws.proofs.Table.{upto, below}
 use Rattle.code.specs.declared.Case.TheVariants.{Letters, Figures}
@@ -74,7 +73,7 @@ pub returns-then-c-eq0 : goal.returns-then-c-eq0
 unfolding kind_of row_at
 returns-then-c-eq0 c =
     elim c.then-c-eq0.branch [
-      then-c-eq0-via-then-c-eq0 w ↦ rw w.if-c-eq0.true
+      | then-c-eq0-via-then-c-eq0 w ↦ rw w.if-c-eq0.true
       | then-c-eq0-via-else-c-eq0+then-c-eq2 w ↦ rw w.if-c-eq2.true
       | then-c-eq0-via-else-c-eq0+else-c-eq2+then-c-gt31 w ↦ none c.args.c w.if-c-gt31.true
     ]

@@ -1,5 +1,4 @@
 -- `code::moves` meets its contract: each kind has its case of `moves`.
-use borrow.Author.Rules.{rules}
 use Rattle.code.proofs.moves.Goals as goal
 
 pub returns-in-Char : goal.returns-in-Char

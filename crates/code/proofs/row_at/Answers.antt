@@ -1,6 +1,5 @@
 -- `code::row_at` meets its contract: the array of two rows is `rows`, and past the end of a row `get_or` gives 0.
-use mathlib.Core.Path.{◌≡◌, sym}
-use borrow.Author.Rules.{rules}
+use mathlib.Core.Path.{sym}
 use Rattle.code.specs.Rows.{row_at}
 use Rattle.code.proofs.Laws.{no_code}
 use Rattle.code.proofs.row_at.Goals as goal

@@ -1,12 +1,7 @@
 -- `code::rows` meets its contract. The invariant: the first codes' places hold the characters of both rows.
-use Prim.Native.Nat.{ℕ, ◌≤◌, ◌<◌, ◌+◌, ◌-◌}
-use mathlib.Core.Path.{◌≡◌, refl, sym, ◌∙◌}
-use mathlib.Core.List.{List, ◌++◌}
-use native.Mathlib.Omega.{arith}
-use native.Mathlib.Numerals.{add-one}
-use lib.ListN.{length, get_or, take, drop, set, length-set, length-drop, length-replicate, take-append-drop}
-use lib.Seq.{take-suc, take-suc-set, take_all, take-set-le, drop-set-lt, drop-set-add}
-use borrow.Author.Rules.{rules}
+use Prim.Native.Nat.{◌≤◌, ◌-◌}
+use mathlib.Core.Path.{◌≡◌}
+use lib.ListN.{length, take, drop}
 use Rattle.code.specs.Rows.{letters, figures}
 use Rattle.code.proofs.rows.Given as goal
 

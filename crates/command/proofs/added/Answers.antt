@@ -1,5 +1,4 @@
 -- `command::added` meets its contract: the field that it reads, grows and stores is that of `added`.
-use borrow.Author.Rules.{rules}
 use Rattle.command.proofs.added.Goals as goal
 
 pub returns : goal.returns

@@ -1,6 +1,5 @@
 -- `command::afresh` meets its contract: its test picks the case of `afresh`.
 use borrow.Author.Tests.{eq-eqb, ne_eqb}
-use borrow.Author.Rules.{rules}
 use Rattle.command.proofs.afresh.Goals as goal
 
 pub returns-then-b-eq47 : goal.returns-then-b-eq47

@@ -1,5 +1,4 @@
 -- `command::alike` meets its contract: its test picks the case of `alike`.
-use borrow.Author.Rules.{rules}
 use Rattle.command.proofs.alike.Goals as goal
 
 pub returns-then-small : goal.returns-then-small

@@ -1,5 +1,4 @@
 -- `command::digit` meets its contract: each form has its case of `digit`.
-use borrow.Author.Rules.{rules}
 use Rattle.command.proofs.digit.Goals as goal
 
 pub returns-in-Empty : goal.returns-in-Empty

@@ -1,5 +1,4 @@
 -- `command::ex` meets its contract: each form has its case of `ex`.
-use borrow.Author.Rules.{rules}
 use Rattle.command.proofs.ex.Goals as goal
 
 pub returns-in-Empty : goal.returns-in-Empty

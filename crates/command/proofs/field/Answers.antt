@@ -1,7 +1,6 @@
 -- `command::field` meets its contract: its tests pick the case of `field`.
-use mathlib.Core.Path.{◌≡◌, sym, ◌∙◌}
+use mathlib.Core.Path.{sym, ◌∙◌}
 use borrow.Author.Tests.{eq-eqb, ne_eqb}
-use borrow.Author.Rules.{rules}
 use Rattle.command.proofs.field.Goals as goal
 
 pub returns-then-b-eq44 : goal.returns-then-b-eq44

@@ -3,7 +3,6 @@ use Prim.Native.Nat.{◌+◌, min}
 use mathlib.Core.Path.{◌≡◌}
 use native.Mathlib.Omega.{arith}
 use borrow.Author.Tests.{eq-eqb, ne_eqb}
-use borrow.Author.Rules.{rules}
 use Rattle.command.proofs.finish.Goals as goal
 
 pub returns-then-last-eq0 : goal.returns-then-last-eq0

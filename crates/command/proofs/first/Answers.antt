@@ -1,6 +1,5 @@
 -- `command::first` meets its contract: its tests pick the case of `first`.
-use mathlib.Core.Path.{◌≡◌, sym, ◌∙◌}
-use borrow.Author.Rules.{rules}
+use mathlib.Core.Path.{sym, ◌∙◌}
 use Rattle.command.proofs.first.Goals as goal
 
 pub returns-then-within : goal.returns-then-within

@@ -1,5 +1,4 @@
 -- `command::grown` meets its contract: a digit is at least 48.
-use borrow.Author.Rules.{rules}
 use Rattle.command.proofs.Digits.{digit_least}
 use Rattle.command.proofs.grown.Goals as goal
 

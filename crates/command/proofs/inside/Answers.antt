@@ -1,7 +1,6 @@
 -- `command::inside` meets its contract: its tests pick the case of `inside`.
-use mathlib.Core.Path.{◌≡◌, sym, ◌∙◌}
+use mathlib.Core.Path.{sym, ◌∙◌}
 use borrow.Author.Tests.{eq-eqb, ne_eqb}
-use borrow.Author.Rules.{rules}
 use Rattle.command.proofs.inside.Goals as goal
 
 pub returns-then-ends : goal.returns-then-ends

@@ -1,6 +1,5 @@
 -- `command::is_letter` meets its contract: its first test decides, or the second is left.
 use borrow.Author.Tests.{eq-eqb, ne_eqb}
-use borrow.Author.Rules.{rules}
 use Rattle.command.proofs.is_letter.Goals as goal
 
 pub returns-then-b-letter : goal.returns-then-b-letter

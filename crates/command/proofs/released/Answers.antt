@@ -1,6 +1,5 @@
 -- `command::released` meets its contract: its tests pick the case of `released`.
 use borrow.Author.Tests.{eq-eqb, ne_eqb}
-use borrow.Author.Rules.{rules}
 use Rattle.command.proofs.released.Goals as goal
 
 pub returns-then-b-eq46 : goal.returns-then-b-eq46

@@ -1,6 +1,5 @@
 -- `command::second` meets its contract: its test picks the case of `second`.
-use mathlib.Core.Path.{◌≡◌, sym, ◌∙◌}
-use borrow.Author.Rules.{rules}
+use mathlib.Core.Path.{sym, ◌∙◌}
 use Rattle.command.proofs.second.Goals as goal
 
 pub returns-then-alike : goal.returns-then-alike

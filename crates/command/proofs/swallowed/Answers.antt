@@ -1,6 +1,5 @@
 -- `command::swallowed` meets its contract: its test picks the case of `swallowed`.
 use borrow.Author.Tests.{eq-eqb, ne_eqb}
-use borrow.Author.Rules.{rules}
 use Rattle.command.proofs.swallowed.Goals as goal
 
 pub returns-then-b-eq10 : goal.returns-then-b-eq10

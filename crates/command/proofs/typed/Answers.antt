@@ -1,6 +1,5 @@
 -- `command::typed` meets its contract: its test picks the case of `typed`.
 use borrow.Author.Tests.{eq-eqb, ne_eqb}
-use borrow.Author.Rules.{rules}
 use Rattle.command.proofs.typed.Goals as goal
 
 pub returns-then-b-eq44 : goal.returns-then-b-eq44

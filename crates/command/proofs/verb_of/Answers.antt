@@ -1,7 +1,6 @@
 -- `command::verb_of` meets its contract: its tests pick the case of `verb`.
-use mathlib.Core.Path.{◌≡◌, sym, ◌∙◌}
+use mathlib.Core.Path.{sym, ◌∙◌}
 use borrow.Author.Tests.{not-true, not-false}
-use borrow.Author.Rules.{rules}
 use Rattle.command.proofs.verb_of.Goals as goal
 
 pub returns-then-not-t : goal.returns-then-not-t

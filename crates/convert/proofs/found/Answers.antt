@@ -1,6 +1,5 @@
 -- `convert::found` meets its contract: its test is the definition's.
 use mathlib.Core.Path.{ap, sym, ◌∙◌}
-use borrow.Author.Rules.{rules}
 use Rattle.code.specs.Kinds.{dependent}
 use Rattle.convert.proofs.found.Goals as goal
 

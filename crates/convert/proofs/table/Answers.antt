@@ -1,5 +1,4 @@
 -- `convert::table` meets its contract: it hands on the rows.
-use borrow.Author.Rules.{rules}
 use Rattle.convert.proofs.table.Goals as goal
 
 pub returns : goal.returns

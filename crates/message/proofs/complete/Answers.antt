@@ -1,5 +1,4 @@
 -- Each case by its clause.
-use borrow.Author.Rules.{rules}
 use Rattle.message.proofs.complete.Goals as goal
 
 pub returns-in-In : goal.returns-in-In

@@ -1,6 +1,5 @@
 -- Each case by its clause.
 use borrow.Author.Tests.{ne_eqb}
-use borrow.Author.Rules.{rules}
 use Rattle.message.proofs.ended.Goals as goal
 
 pub returns-in-Second : goal.returns-in-Second

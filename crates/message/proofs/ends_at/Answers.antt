@@ -1,6 +1,5 @@
 -- The two tests are those of the definition.
 use mathlib.Core.Path.{sym, ◌∙◌}
-use borrow.Author.Rules.{rules}
 use lib.ListN.{drop}
 use Rattle.message.proofs.Turns.{ends_here_law, not_complete, no_crlf}
 use Rattle.message.proofs.ends_at.Goals as goal

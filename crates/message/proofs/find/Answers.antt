@@ -1,7 +1,6 @@
 -- `message::find` meets its contract: the part from the place's start to its end is the stretch, and begins there.
 use mathlib.Core.Path.{refl, ap, ◌∙◌}
 use lib.ListN.{length}
-use borrow.Author.Rules.{rules}
 use Rattle.message.proofs.Right.{found_at, found_long}
 use Rattle.message.proofs.find.Goals as goal
 

@@ -1,11 +1,8 @@
 -- The invariant: the earliest message from here on is the earliest of all.
 use Prim.Native.Nat.{◌≤◌, ◌-◌}
-use mathlib.Core.Path.{◌≡◌, sym, ◌∙◌}
-use native.Mathlib.Omega.{arith}
-use borrow.Author.Rules.{rules}
+use mathlib.Core.Path.{◌≡◌}
 use lib.ListN.{drop, length}
 use Rattle.message.specs.Scan.{located, located_from}
-use Rattle.message.proofs.Right.{located_is, locate_start, locate_here, locate_next, locate_over, room_here}
 use Rattle.message.proofs.locate.Given as goal
 
 abbrev pub invariant-loop-i : goal.invariant-loop-i

@@ -1,5 +1,4 @@
 -- The first pass decides: its 0 says that there is no room.
-use borrow.Author.Rules.{rules}
 use lib.ListN.{length}
 use Rattle.message.proofs.Room.{made_none, made_whole, room_known}
 use Rattle.message.proofs.make.Goals as goal

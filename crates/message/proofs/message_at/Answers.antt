@@ -1,6 +1,5 @@
 -- The two tests are those of the definition, and each leaves room for what is read next.
 use mathlib.Core.Path.{sym, ◌∙◌}
-use borrow.Author.Rules.{rules}
 use Rattle.message.proofs.Turns.{crlf_room, mark_room, begun, no_start, no_mark}
 use Rattle.message.proofs.message_at.Goals as goal
 

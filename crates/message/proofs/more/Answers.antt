@@ -1,5 +1,4 @@
 -- The three branches are those of the definition.
-use borrow.Author.Rules.{rules}
 use Rattle.message.proofs.Turns.{more_zero, more_fits, more_over}
 use Rattle.message.proofs.more.Goals as goal
 

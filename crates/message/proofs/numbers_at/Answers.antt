@@ -1,11 +1,8 @@
 -- The invariant: what is left, read from the state reached, gives what all of it does.
-use Prim.Native.Nat.{◌≤◌, ◌+◌, ◌-◌}
+use Prim.Native.Nat.{◌+◌, ◌-◌}
 use mathlib.Core.Path.{◌≡◌, refl, sym, ◌∙◌}
 use native.Mathlib.Omega.{arith}
 use borrow.Author.Rules.{rules}
-use lib.ListN.{drop, length}
-use Rattle.message.specs.declared.Scan.TheVariants.{Opening}
-use Rattle.message.specs.Scan.{numbers_from}
 use Rattle.message.proofs.Turns.{numbers_ended, numbers_next, numbers_over}
 use Rattle.message.proofs.numbers_at.Goals as goal
 

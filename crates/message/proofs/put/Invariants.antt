@@ -1,12 +1,8 @@
 -- The invariant: the first `i` bytes of the word stand in the buffer from `at` on, and the rest is as it was.
-use Prim.Native.Nat.{◌≤◌, ◌<◌, ◌+◌, ◌-◌}
-use mathlib.Core.Path.{◌≡◌, refl, ◌∙◌}
-use native.Mathlib.Omega.{arith}
-use native.Mathlib.Numerals.{add-one}
-use borrow.Author.Rules.{rules}
-use lib.Seq.{paste, paste-zero, paste-suc}
-use lib.ListN.{length, length-set}
-use Rattle.message.proofs.Puts.{whole_word}
+use Prim.Native.Nat.{◌≤◌, ◌-◌}
+use mathlib.Core.Path.{◌≡◌}
+use lib.Seq.{paste}
+use lib.ListN.{length}
 use Rattle.message.proofs.put.Given as goal
 
 abbrev pub invariant-loop-i : goal.invariant-loop-i

@@ -1,7 +1,6 @@
 -- The bytes that are put are the comma and the digits of the branch.
 use mathlib.Core.Path.{ap}
 use native.Mathlib.Omega.{arith}
-use borrow.Author.Rules.{rules}
 use lib.ListN.{length}
 use Rattle.message.proofs.Digits.{one_digit, two_digits, three_digits}
 use Rattle.message.proofs.put_field.Goals as goal

@@ -1,11 +1,11 @@
 -- The invariant: the numbers so far are put from `at` on, and the next place is `k`.
-use Prim.Native.Nat.{◌≤◌, ◌<◌, ◌-◌}
-use mathlib.Core.Path.{◌≡◌, refl}
+use Prim.Native.Nat.{◌<◌}
+use mathlib.Core.Path.{refl}
 use native.Mathlib.Omega.{arith}
 use borrow.Author.Rules.{rules}
 use lib.Seq.{take_all}
 use lib.ListN.{take, get_or, length}
-use Rattle.message.specs.Made.{Put, field}
+use Rattle.message.specs.Made.{field}
 use Rattle.message.specs.Message.{numbers}
 use Rattle.message.proofs.Puts.{put_none, put_next}
 use Rattle.message.proofs.Sizes.{one_more, part_length}

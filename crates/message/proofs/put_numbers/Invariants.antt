@@ -1,14 +1,9 @@
 -- The invariant: the numbers so far are put from `at` on, and the next place is `k`.
-use Prim.Native.Nat.{◌≤◌, ◌<◌, ◌-◌}
-use mathlib.Core.Path.{◌≡◌, refl}
-use native.Mathlib.Omega.{arith}
-use borrow.Author.Rules.{rules}
-use lib.Seq.{take_all}
-use lib.ListN.{take, get_or, length}
-use Rattle.message.specs.Made.{Put, field}
+use Prim.Native.Nat.{◌≤◌, ◌-◌}
+use mathlib.Core.Path.{◌≡◌}
+use lib.ListN.{take, length}
+use Rattle.message.specs.Made.{Put}
 use Rattle.message.specs.Message.{numbers}
-use Rattle.message.proofs.Puts.{put_none, put_next}
-use Rattle.message.proofs.Sizes.{one_more, part_length}
 use Rattle.message.proofs.put_numbers.Given as goal
 
 abbrev pub invariant-loop-i : goal.invariant-loop-i

@@ -1,7 +1,6 @@
 -- Each case by its clause.
 use mathlib.Core.Path.{sym, ◌∙◌}
 use borrow.Author.Tests.{eq-eqb, ne_eqb}
-use borrow.Author.Rules.{rules}
 use Rattle.message.proofs.Turns.{digit_bounds}
 use Rattle.message.proofs.scan_byte.Goals as goal
 

@@ -1,6 +1,5 @@
 -- The three branches are those of the definition.
 use mathlib.Core.Path.{sym, ◌∙◌}
-use borrow.Author.Rules.{rules}
 use Rattle.message.proofs.Turns.{digit_bounds, in_comma, in_digit, in_bad}
 use Rattle.message.proofs.scan_in.Goals as goal
 

@@ -1,11 +1,10 @@
 -- The invariant: what is counted and the numbers that are left make up the message, and what is counted has room.
-use Prim.Native.Nat.{◌≤◌, ◌<◌, ◌+◌, ◌-◌}
-use mathlib.Core.Path.{◌≡◌, ◌∙◌}
+use Prim.Native.Nat.{◌<◌}
+use mathlib.Core.Path.{◌∙◌}
 use native.Mathlib.Omega.{arith}
 use native.Mathlib.Nat.{add-zero}
 use borrow.Author.Rules.{rules}
-use lib.ListN.{drop, get_or, length}
-use Rattle.message.specs.Message.{numbers, framed}
+use lib.ListN.{get_or, length}
 use Rattle.message.proofs.Room.{no_room, room_enough}
 use Rattle.message.proofs.Sizes.{next_length, framed_length, no_number}
 use Rattle.message.proofs.Digits.{digits_few}

@@ -1,11 +1,9 @@
 -- The invariant: what is left of the word has to stand at the place reached.
-use Prim.Native.Nat.{◌≤◌, ◌+◌, ◌-◌}
-use mathlib.Core.Path.{◌≡◌, refl, sym, ◌∙◌}
+use Prim.Native.Nat.{◌+◌}
+use mathlib.Core.Path.{refl, sym, ◌∙◌}
 use native.Mathlib.Omega.{arith}
 use native.Mathlib.Nat.{add-zero, add_assoc}
 use borrow.Author.Rules.{rules}
-use lib.ListN.{length, drop}
-use Rattle.message.specs.Scan.{prefix}
 use Rattle.message.proofs.Prefix.{short, other, same, whole}
 use Rattle.message.proofs.starts_at.Goals as goal
 

@@ -1,5 +1,4 @@
 -- Each case by its clause.
-use borrow.Author.Rules.{rules}
 use Rattle.message.proofs.whole.Goals as goal
 
 pub returns-in-Rest : goal.returns-in-Rest

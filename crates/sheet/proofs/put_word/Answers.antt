@@ -7,7 +7,6 @@ use lib.ListN.{length-set}
 use Rattle.laws.proofs.Filled.{filled_sets}
 use Rattle.sheet.proofs.Stores.{put_as}
 use Rattle.message.proofs.Digits.{one_digit, two_digits, three_digits}
-use borrow.Author.Rules.{rules}
 use Rattle.sheet.proofs.put_word.Goals as goal
 
 pub bounds-out-1 : goal.bounds-out-1

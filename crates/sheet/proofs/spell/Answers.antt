@@ -1,5 +1,5 @@
 -- `sheet::spell` meets its contract. The invariant: the numbers passed are spelt at the front, and there are four places for each that is left.
-use Prim.Native.Nat.{◌≤◌, ◌<◌, ◌+◌, ◌*◌, ◌-◌}
+use Prim.Native.Nat.{◌<◌}
 use mathlib.Core.Path.{◌≡◌, refl}
 use Prim.Native.Nat.{◌/◌}
 use native.Mathlib.Omega.{arith}
@@ -8,10 +8,8 @@ use lib.ListN.{length, get_or, take}
 use lib.Seq.{take_all}
 use Rattle.message.proofs.Digits.{digits_few}
 use Rattle.sheet.proofs.Stores.{words_more}
-use Rattle.laws.specs.Written.{Filled}
 use Rattle.laws.proofs.Filled.{free_length, filled_more}
 use Rattle.sheet.specs.Words.{word, words}
-use borrow.Author.Rules.{rules}
 use Rattle.sheet.proofs.spell.Goals as goal
 
 pub returns-then-out-ns : goal.returns-then-out-ns

@@ -1,17 +1,8 @@
 -- `sheet::spell` meets its contract. The invariant: the numbers passed are spelt at the front, and there are four places for each that is left.
-use Prim.Native.Nat.{◌≤◌, ◌<◌, ◌+◌, ◌*◌, ◌-◌}
-use mathlib.Core.Path.{◌≡◌, refl}
-use Prim.Native.Nat.{◌/◌}
-use native.Mathlib.Omega.{arith}
-use borrow.Author.Tests.{le-leb, lt-leb}
-use lib.ListN.{length, get_or, take}
-use lib.Seq.{take_all}
-use Rattle.message.proofs.Digits.{digits_few}
-use Rattle.sheet.proofs.Stores.{words_more}
+use Prim.Native.Nat.{◌≤◌, ◌*◌, ◌-◌}
+use lib.ListN.{length, take}
 use Rattle.laws.specs.Written.{Filled}
-use Rattle.laws.proofs.Filled.{free_length, filled_more}
-use Rattle.sheet.specs.Words.{word, words}
-use borrow.Author.Rules.{rules}
+use Rattle.sheet.specs.Words.{words}
 use Rattle.sheet.proofs.spell.Given as goal
 
 abbrev pub invariant-loop-i : goal.invariant-loop-i

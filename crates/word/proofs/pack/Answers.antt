@@ -1,11 +1,10 @@
 -- `word::pack` meets its contract. The loop's invariant: the codes from place `i` on are packed.
-use borrow.Author.Rules.{rules}
 use Prim.Native.Nat.{ℕ}
 use mathlib.Core.Path.{◌≡◌, ap, ◌∙◌}
 use native.Mathlib.Omega.{arith}
 use lib.ListN.{drop}
 use Rattle.word.specs.Word.{packed}
-use Rattle.word.proofs.Packs.{Packs, none_packed, room, one_packed}
+use Rattle.word.proofs.Packs.{none_packed, room, one_packed}
 use Rattle.word.proofs.pack.Goals as goal
 
 pub loop-i-init : goal.loop-i-init

@@ -1,11 +1,5 @@
 -- `word::pack` meets its contract. The loop's invariant: the codes from place `i` on are packed.
-use borrow.Author.Rules.{rules}
-use Prim.Native.Nat.{ℕ}
-use mathlib.Core.Path.{◌≡◌, ap, ◌∙◌}
-use native.Mathlib.Omega.{arith}
-use lib.ListN.{drop}
-use Rattle.word.specs.Word.{packed}
-use Rattle.word.proofs.Packs.{Packs, none_packed, room, one_packed}
+use Rattle.word.proofs.Packs.{Packs}
 use Rattle.word.proofs.pack.Given as goal
 
 abbrev pub invariant-loop-i : goal.invariant-loop-i

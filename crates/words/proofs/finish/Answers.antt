@@ -1,6 +1,5 @@
 -- `words::finish` meets its contract: the word that is held is read where it stands.
 use borrow.Author.Tests.{eq-eqb, ne_eqb}
-use borrow.Author.Rules.{rules}
 use Rattle.words.proofs.finish.Goals as goal
 
 pub returns-then-r-eq0 : goal.returns-then-r-eq0

@@ -1,6 +1,5 @@
 -- `words::is_named` meets its contract: each test picks its case of `is_named`.
 use borrow.Author.Tests.{eq-eqb, ne_eqb}
-use borrow.Author.Rules.{rules}
 use Rattle.words.proofs.is_named.Goals as goal
 
 pub returns-then-a-name : goal.returns-then-a-name

@@ -1,5 +1,4 @@
 -- `words::item_at` meets its contract: each case of the definition is one of the code.
-use borrow.Author.Rules.{rules}
 use Rattle.words.proofs.item_at.Goals as goal
 
 pub returns-in-Code : goal.returns-in-Code

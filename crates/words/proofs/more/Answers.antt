@@ -3,7 +3,6 @@ use Prim.Native.Nat.{min, ◌+◌}
 use mathlib.Core.Path.{◌≡◌}
 use native.Mathlib.Omega.{arith}
 use borrow.Author.Tests.{lt-ltb, le-ltb}
-use borrow.Author.Rules.{rules}
 use Rattle.words.proofs.more.Goals as goal
 
 pub returns-then-size-lt16 : goal.returns-then-size-lt16

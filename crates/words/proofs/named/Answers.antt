@@ -1,5 +1,4 @@
 -- `words::named` meets its contract: each name picks its case of `named`.
-use borrow.Author.Rules.{rules}
 use Rattle.words.proofs.named.Goals as goal
 
 pub returns-then-is_named : goal.returns-then-is_named

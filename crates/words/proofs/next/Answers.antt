@@ -2,7 +2,6 @@
 use Prim.Native.Nat.{min, ◌+◌}
 use mathlib.Core.Path.{◌≡◌}
 use native.Mathlib.Omega.{arith}
-use borrow.Author.Rules.{rules}
 use Rattle.words.proofs.next.Goals as goal
 
 pub returns-then-place-lt18446744073709551615 : goal.returns-then-place-lt18446744073709551615

@@ -1,6 +1,5 @@
 -- `words::one_digit` meets its contract: the value is below 10 for a digit alone.
 use borrow.Author.Tests.{le-ltb, lt-ltb}
-use borrow.Author.Rules.{rules}
 use Rattle.words.proofs.one_digit.Goals as goal
 
 pub returns-then-n-lt10 : goal.returns-then-n-lt10

@@ -1,5 +1,4 @@
 -- `words::read_byte` meets its contract: white space ends a word, and any other byte is one more of it.
-use borrow.Author.Rules.{rules}
 use Rattle.words.proofs.read_byte.Goals as goal
 
 pub returns-then-is_white : goal.returns-then-is_white

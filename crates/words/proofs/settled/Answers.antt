@@ -1,5 +1,4 @@
 -- `words::settled` meets its contract: each item has its case of `settled`.
-use borrow.Author.Rules.{rules}
 use Rattle.words.proofs.settled.Goals as goal
 
 pub returns-in-Bad : goal.returns-in-Bad

@@ -1,6 +1,5 @@
 -- `words::two_digits` meets its contract: the values are below 10 for digits alone.
 use borrow.Author.Tests.{le-ltb, lt-ltb}
-use borrow.Author.Rules.{rules}
 use Rattle.words.proofs.two_digits.Goals as goal
 
 pub returns-then-c-lt32 : goal.returns-then-c-lt32

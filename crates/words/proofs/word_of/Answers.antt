@@ -1,6 +1,5 @@
 -- `words::word_of` meets its contract: the size picks its case of `word_of`.
 use borrow.Author.Tests.{eq-eqb, ne_eqb}
-use borrow.Author.Rules.{rules}
 use Rattle.words.proofs.word_of.Goals as goal
 
 pub returns-then-size-eq1 : goal.returns-then-size-eq1

@@ -1,5 +1,4 @@
 -- `command::Reader::read` meets its contract: each stage has its case of `read_at`, and what that reads has the stage's text.
-use borrow.Author.Rules.{rules}
 use Rattle.command.proofs.Texts.{reads}
 use Rattle.command.proofs.Reader.read.Goals as goal
 

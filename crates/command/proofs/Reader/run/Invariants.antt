@@ -1,13 +1,10 @@
 -- `command::Reader::run` meets its contract. The invariant: the run from the first byte on is the run of the reader reached over
 -- the bytes that are left, with the bytes taken counted before it.
 use Prim.Native.Nat.{◌≤◌, ◌-◌}
-use mathlib.Core.Path.{◌≡◌, sym, ◌∙◌}
-use native.Mathlib.Omega.{arith}
-use borrow.Author.Rules.{rules}
-use borrow.Author.Tests.{not-true, not-false}
+use mathlib.Core.Path.{◌≡◌}
 use lib.ListN.{drop, length}
 use Rattle.command.specs.Reads.{running}
-use Rattle.command.proofs.Runs.{ahead, run_begins, run_goes, run_stops, run_ends}
+use Rattle.command.proofs.Runs.{ahead}
 use Rattle.command.proofs.Reader.run.Given as goal
 
 abbrev pub invariant-loop-taken : goal.invariant-loop-taken

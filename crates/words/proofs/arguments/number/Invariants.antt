@@ -1,13 +1,8 @@
 -- `words::arguments::number` meets its contract. The invariant: what remains gives, from here, the number that all give.
-use Prim.Native.Nat.{ℕ, ◌≤◌, ◌<◌, ◌+◌, ◌-◌}
-use mathlib.Core.Path.{◌≡◌, refl, sym, ◌∙◌}
-use mathlib.Core.List.{List}
-use native.Mathlib.Omega.{arith}
-use native.Mathlib.Numerals.{add-one}
-use lib.ListN.{length, get_or, drop, drop_of_length-le}
-use lib.Seq.{drop-cons}
-use borrow.Author.Rules.{rules}
-use Rattle.words.specs.Arguments.{pushed, number}
+use Prim.Native.Nat.{◌≤◌, ◌-◌}
+use mathlib.Core.Path.{◌≡◌}
+use lib.ListN.{length, drop}
+use Rattle.words.specs.Arguments.{number}
 use Rattle.words.proofs.arguments.number.Given as goal
 
 abbrev pub invariant-loop-i : goal.invariant-loop-i

@@ -9,7 +9,6 @@ use borrow.Author.Tests.{lt-ltb, le-ltb}
 use Rattle.laws.specs.Same.{same}
 use Rattle.laws.proofs.Tail.{from_start, to_end}
 use Rattle.words.specs.Arguments.{number, number_after}
-use borrow.Author.Rules.{rules}
 use Rattle.words.proofs.arguments.number_after.Goals as goal
 
 found : (s name : List ℕ) (k r : ℕ) (b : Bool) → k < length s → b ≡ same (take (k - 0) (drop 0 s)) name → b ≡ true → r ≡ number 0 (take (length s - k) (drop k s)) → r ≡ number_after s k name

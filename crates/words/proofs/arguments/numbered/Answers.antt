@@ -1,6 +1,5 @@
 -- `words::arguments::numbered` meets its contract: each number below 256 picks its case.
 use borrow.Author.Tests.{le-ltb, lt-ltb}
-use borrow.Author.Rules.{rules}
 use Rattle.words.proofs.arguments.numbered.Goals as goal
 
 pub returns-then-n-lt256 : goal.returns-then-n-lt256

@@ -1,7 +1,6 @@
 -- `words::arguments::pushed` meets its contract: a digit makes the number longer, and past 255 it is none.
 use native.Mathlib.Omega.{arith}
 use borrow.Author.Tests.{le-ltb, lt-ltb}
-use borrow.Author.Rules.{rules}
 use Rattle.words.proofs.arguments.pushed.Goals as goal
 
 pub returns-then-m-lt256 : goal.returns-then-m-lt256

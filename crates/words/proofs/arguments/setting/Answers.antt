@@ -1,6 +1,5 @@
 -- `words::arguments::setting` meets its contract: each word picks its case of `setting_of`.
 use mathlib.Core.Path.{sym, ◌∙◌}
-use borrow.Author.Rules.{rules}
 use Rattle.words.proofs.arguments.setting.Goals as goal
 
 pub returns-then-same : goal.returns-then-same
