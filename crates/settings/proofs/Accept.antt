@@ -2,8 +2,8 @@
 -- Assumes nothing.
 use Prim.Native.Nat.{ℕ}
 use mathlib.Core.Path.{◌≡◌, refl, ap}
-use mathlib.Core.Bool.{Bool, true, false, cond, ◌&&◌, false≢true}
-use mathlib.Core.List.{List, [], ◌∷◌}
+use mathlib.Core.Bool.{Bool, true, false, cond}
+use mathlib.Core.List.{List}
 use native.Mathlib.Omega.{arith}
 use borrow.Author.Tests.{eqb-true}
 use lib.Dec.{eqb}
@@ -13,7 +13,7 @@ use Rattle.settings.specs.Names.takes
 use Rattle.settings.specs.Names.fault
 use Rattle.laws.proofs.Both.{both}
 use Rattle.settings.specs.Table.{row, taken_by}
-use Rattle.settings.specs.Command.{checked, fitting, ranged, fault_in, fault_of, jointly, number_of, succeeded, refused, answered, wrong, commanded}
+use Rattle.settings.specs.Command.{checked, fitting, ranged, fault_in, fault_of, jointly, number_of, succeeded, refused, wrong, commanded}
 
 -- the id takes n parameters, n is the number field, and the values are in their range
 pub record Accepted (t : Takes) (v : Verb) (r : Row) (fields : List ℕ) : Type 0 where

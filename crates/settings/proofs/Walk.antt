@@ -1,12 +1,13 @@
 -- A list walked place by place, by a function that goes down it.
 -- Assumes nothing.
-use Prim.Native.Nat.{ℕ, zero, suc, ◌+◌, ◌≤◌, ◌<◌}
+use Prim.Native.Nat.{ℕ, zero, suc, ◌+◌, ◌-◌, ◌≤◌, ◌<◌}
 use mathlib.Core.Path.{◌≡◌, refl, ap, ◌∙◌}
 use mathlib.Core.List.{List, [], ◌∷◌, ◌++◌}
 use native.Mathlib.Omega.{arith}
 use native.Mathlib.Numerals.{add-one}
 use lib.ListN.{length, get_or, take, drop, drop_of_length-le}
 use lib.Seq.{drop-cons}
+use Rattle.settings.specs.Command.{sum}
 
 module _ {A : Type 0} (f : List ℕ → A) (xs : List ℕ) (i : ℕ) (a : A) where
   -- at a place of the list
@@ -39,3 +40,7 @@ past_five (suc (suc zero)) a b c d e = absurd (c refl)
 past_five (suc (suc (suc zero))) a b c d e = absurd (d refl)
 past_five (suc (suc (suc (suc zero)))) a b c d e = absurd (e refl)
 past_five (suc (suc (suc (suc (suc n))))) a b c d e = omega arith
+
+-- the sum of what is left of the first n
+abbrev pub left : ℕ → ℕ → List ℕ → ℕ
+left n i fields = sum (take (n - i) (drop i fields))

@@ -2,7 +2,7 @@
 -- Assumes nothing.
 use Prim.Native.Nat.{ℕ, ◌-◌, ◌<◌}
 use mathlib.Core.Path.{◌≡◌, refl, ap, sym, subst, ◌∙◌}
-use mathlib.Core.Bool.{Bool, true, false, cond, ◌&&◌, not, false≢true, true≢false}
+use mathlib.Core.Bool.{Bool, true, false, ◌&&◌, not, false≢true, true≢false}
 use mathlib.Core.List.{List, [], ◌∷◌}
 use native.Mathlib.Omega.{arith}
 use borrow.Author.Tests.{ltb-true, eqb-true}
@@ -13,7 +13,6 @@ use Rattle.laws.proofs.Both.{both}
 use Rattle.word.specs.Word.{unpacked, packed, is_word}
 use Rattle.word.proofs.Words.{codes_packed, below}
 use Rattle.settings.specs.Names.{Verb, Write, Read, Other, Settings, Calling, Connection, Home, Version, Linked, Unlinked, Value, String, Power, Signal, Factory, Nowhere, Row, Takes, Count, Fault, Stored}
-use Rattle.settings.specs.Names.takes
 use Rattle.settings.specs.Names.fault
 use Rattle.settings.specs.Table.{between, in_range, all_codes, padded, opens, options, row, is_connection, width, takes_if, taken_by, factory, factory_calling, is_power, sound_string, sound_signal, sound_stand_in, sound_settings, is_signal, sound_calling, sound_link, sound_connection}
 use Rattle.settings.specs.Command.{fault_of, together, kept, joined, recalled, link, with_value, with_string, with_power, with_signal, store, obey, values_at, numbers_at, reading, outcome, answered, wrong, commanded}

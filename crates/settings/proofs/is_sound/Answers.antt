@@ -1,5 +1,4 @@
 -- `settings::is_sound` meets its contract: its three parts are those of the promise.
-use borrow.Author.Rules.{rules}
 use Rattle.settings.proofs.is_sound.Goals as goal
 
 pub returns : goal.returns

@@ -8,5 +8,5 @@ use Rattle.settings.proofs.Settings.with_value.Goals as goal
 
 pub returns-else-i-lt7 : goal.returns-else-i-lt7
 returns-else-i-lt7 c =
-    let n : length c.args.t1.values ≡ 7 = search rules in
-    rw (set_out c.args.t1.values c.args.place c.args.x (omega arith))
+    let n : length c.args.self.values ≡ 7 = search rules in
+    rw (set_out c.args.self.values c.args.place c.args.x (omega arith))

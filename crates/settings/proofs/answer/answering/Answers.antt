@@ -1,5 +1,4 @@
 -- `settings::answer::answering` meets its contract: by the test of the home.
-use borrow.Author.Rules.{rules}
 use mathlib.Core.Path.{sym, ◌∙◌}
 use Rattle.settings.proofs.answer.answering.Goals as goal
 

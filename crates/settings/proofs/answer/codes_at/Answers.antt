@@ -1,5 +1,4 @@
 -- `settings::answer::codes_at` meets its contract: they are those of its word.
-use borrow.Author.Rules.{rules}
 use Rattle.settings.proofs.answer.codes_at.Goals as goal
 
 pub returns : goal.returns

@@ -4,4 +4,4 @@ use Rattle.settings.proofs.Walk.{spread_all}
 use Rattle.settings.proofs.answer.eight.Goals as goal
 
 pub returns : goal.returns
-returns c = rw (spread_all 8 0 c.args.t3 c.well_formed.1.1.0.1.0.1)
+returns c = rw (spread_all 8 0 c.args.s (search rules))

@@ -1,5 +1,4 @@
 -- `settings::answer::read_out` meets its contract: it is told by the row that answers.
-use borrow.Author.Rules.{rules}
 use Rattle.settings.proofs.answer.read_out.Goals as goal
 
 pub returns : goal.returns

@@ -1,5 +1,4 @@
 -- `settings::answer::tell` meets its contract: each home has its own values.
-use borrow.Author.Rules.{rules}
 use Rattle.settings.proofs.answer.tell.Goals as goal
 
 pub returns-in-Version : goal.returns-in-Version

@@ -1,6 +1,6 @@
 -- `settings::faults::checksum` meets its contract. The loop's invariant: the total and the sum of those of the first n fields that stand from
 -- place `i` on make the whole sum, modulo 256.
-use Prim.Native.Nat.{ℕ, zero, suc, ◌%◌, ◌≤◌, ◌<◌, ◌+◌, ◌-◌}
+use Prim.Native.Nat.{ℕ, zero, suc, ◌%◌, ◌<◌, ◌+◌, ◌-◌}
 use mathlib.Core.Path.{◌≡◌, refl, sym, ◌∙◌}
 use mathlib.Core.List.{List, [], ◌∷◌}
 use native.Mathlib.Omega.{arith}
@@ -9,11 +9,8 @@ use native.Mathlib.Nat.{mod-lt, mod-add-mod, mod-eq_of_lt, add_assoc, zero-add, 
 use borrow.Author.Rules.{rules}
 use lib.ListN.{get_or, take, drop}
 use Rattle.settings.specs.Command.{sum}
+use Rattle.settings.proofs.Walk.{left}
 use Rattle.settings.proofs.faults.checksum.Goals as goal
-
--- the sum of what is left of the first n
-abbrev left : ℕ → ℕ → List ℕ → ℕ
-left n i fields = sum (take (n - i) (drop i fields))
 
 first : (k i : ℕ) (fields : List ℕ) → sum (take (suc k) (drop i fields)) ≡ get_or fields i 0 + sum (take k (drop (suc i) fields))
 first zero zero [] = refl

@@ -1,14 +1,10 @@
 -- `settings::faults::checksum` meets its contract. The loop's invariant: the total and the sum of those of the first n fields that stand from
 -- place `i` on make the whole sum, modulo 256.
-use Prim.Native.Nat.{ℕ, zero, suc, ◌%◌, ◌≤◌, ◌<◌, ◌+◌, ◌-◌}
-use mathlib.Core.Path.{◌≡◌, refl, sym, ◌∙◌}
-use mathlib.Core.List.{List, [], ◌∷◌}
-use native.Mathlib.Omega.{arith}
-use native.Mathlib.Numerals.{add-one}
-use native.Mathlib.Nat.{mod-lt, mod-add-mod, mod-eq_of_lt, add_assoc, zero-add, add-zero, sub-zero, sub_self}
-use borrow.Author.Rules.{rules}
-use lib.ListN.{get_or, take, drop}
+use Prim.Native.Nat.{◌%◌, ◌≤◌, ◌<◌, ◌+◌, ◌-◌}
+use mathlib.Core.Path.{◌≡◌}
+use lib.ListN.{take}
 use Rattle.settings.specs.Command.{sum}
+use Rattle.settings.proofs.Walk.{left}
 use Rattle.settings.proofs.faults.checksum.Given as goal
 
 abbrev pub invariant-loop-i : goal.invariant-loop-i

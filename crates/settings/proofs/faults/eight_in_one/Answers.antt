@@ -6,4 +6,4 @@ use borrow.Author.Rules.{rules}
 use Rattle.settings.proofs.faults.eight_in_one.Goals as goal
 
 pub returns : goal.returns
-returns c = c.from_bytes.ensures ∙ sym (ap (take 8) (spread_all 9 2 c.args.t1 c.well_formed.0.1.0.1))
+returns c = c.from_bytes.ensures ∙ sym (ap (take 8) (spread_all 9 2 c.args.fields (search rules)))

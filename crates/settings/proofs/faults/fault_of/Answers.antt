@@ -1,9 +1,7 @@
 -- `settings::faults::fault_of` meets its contract: the type comes first, and any type that there is goes the same way.
 use Prim.Native.Nat.{ℕ}
 use mathlib.Core.Path.{◌≡◌, refl}
-use mathlib.Core.List.{List, [], ◌∷◌}
-use types.Run.{miss}
-use borrow.Author.Rules.{rules}
+use mathlib.Core.List.{List}
 use Rattle.settings.specs.Names.{Verb, Write, Read, Other, Row}
 use Rattle.settings.specs.Table.{taken_by}
 use Rattle.settings.specs.Command.{fault_in, fault_of}
@@ -18,4 +16,4 @@ typed Other r count fields h = absurd (h refl)
 pub returns : goal.returns
 returns c =
     let a = c.args in
-    rw (c.fault_in.ensures, c.taken_by.ensures) (typed a.v a.r a.count a.fields (λ z. miss (0 ∷ 1 ∷ []) 2 tt (rw z at c.in_default.keys2)))
+    rw (c.fault_in.ensures, c.taken_by.ensures) (typed a.v a.r a.count a.fields (λ z. c.in_default.not-Other z))

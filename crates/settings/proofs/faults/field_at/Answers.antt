@@ -7,5 +7,5 @@ use Rattle.settings.proofs.faults.field_at.Goals as goal
 
 pub returns-else-i-lt11 : goal.returns-else-i-lt11
 returns-else-i-lt11 c =
-    let n : length c.args.t1 ≡ 11 = c.well_formed.0.1.0.1 in
-    sym (get_or-eq_default c.args.t1 0 (omega arith))
+    let n : length c.args.fields ≡ 11 = search rules in
+    sym (get_or-eq_default c.args.fields 0 (omega arith))

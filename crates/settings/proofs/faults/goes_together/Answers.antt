@@ -1,6 +1,5 @@
 -- `settings::faults::goes_together` meets its contract: of a write the stand-in is tested that it would store.
 use mathlib.Core.Path.{refl, ap, ◌∙◌}
-use borrow.Author.Rules.{rules}
 use Rattle.settings.specs.Table.{is_stand_in, sound_stand_in}
 use Rattle.settings.specs.Options.{stand_in}
 use Rattle.settings.proofs.faults.goes_together.Goals as goal
@@ -9,10 +8,10 @@ pub returns-in-Write : goal.returns-in-Write
 unfolding sound_stand_in stand_in
 returns-in-Write c =
     let a = c.args in
-    rw c.in-Write.is (c.is_stand_in.ensures ∙ ap is_stand_in (c.stored_stand_in.ensures k d a.r.number a.t4 refl))
+    λ k d. rw c.in-Write.is (c.is_stand_in.ensures ∙ ap is_stand_in (c.stored_stand_in.ensures k d a.r.number a.ps refl))
 
 pub returns-in-Read : goal.returns-in-Read
-returns-in-Read c = rw c.in-Read.is
+returns-in-Read c = λ k d. rw c.in-Read.is
 
 pub returns-in-Other : goal.returns-in-Other
-returns-in-Other c = rw c.in-Other.is
+returns-in-Other c = λ k d. rw c.in-Other.is

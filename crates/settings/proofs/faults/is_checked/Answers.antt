@@ -1,5 +1,4 @@
 -- `settings::faults::is_checked` meets its contract: no checksum is right, and any other is held against the sum.
-use borrow.Author.Rules.{rules}
 use borrow.Author.Tests.{eq-eqb, ne_eqb}
 use Rattle.settings.proofs.faults.is_checked.Goals as goal
 

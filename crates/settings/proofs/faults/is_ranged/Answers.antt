@@ -1,5 +1,4 @@
 -- `settings::faults::is_ranged` meets its contract: only a write has values.
-use borrow.Author.Rules.{rules}
 use Rattle.settings.proofs.faults.is_ranged.Goals as goal
 
 pub returns-in-Write : goal.returns-in-Write

@@ -8,4 +8,4 @@ use borrow.Author.Rules.{rules}
 use Rattle.settings.proofs.faults.parameters.Goals as goal
 
 pub returns : goal.returns
-returns c = ap (λ (xs : List ℕ). xs ++ get_or c.args.t1 10 0 ∷ []) c.eight_in_one-a.ensures ∙ last_of c.args.t1 c.well_formed.0.1.0.1
+returns c = ap (λ (xs : List ℕ). xs ++ get_or c.args.fields 10 0 ∷ []) c.eight_in_one-a.ensures ∙ last_of c.args.fields (search rules)

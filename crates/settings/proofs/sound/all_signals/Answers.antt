@@ -12,7 +12,7 @@ pairs a b c d e = rw (and_assoc a b ((c && d) && e), and_assoc c d e, and-true e
 
 pub returns : goal.returns
 returns c =
-    let v = c.args.t1 in
-    let n : length v ≡ 5 = c.well_formed.0.1.0.1 in
+    let v = c.args.ns in
+    let n : length v ≡ 5 = search rules in
     rw (c.is_signal-5.ensures, c.is_signal-4.ensures, c.is_signal-3.ensures, c.is_signal-2.ensures, c.is_signal.ensures, spread_all 5 0 v n)
     (pairs (is_signal (get_or v 0 0)) (is_signal (get_or v 1 0)) (is_signal (get_or v 2 0)) (is_signal (get_or v 3 0)) (is_signal (get_or v 4 0)))

@@ -1,5 +1,4 @@
 -- `settings::sound::connection_sound` meets its contract: the range is that of its row.
-use borrow.Author.Rules.{rules}
 use Rattle.settings.specs.Table.{sound_connection}
 use Rattle.settings.proofs.sound.connection_sound.Goals as goal
 

@@ -1,5 +1,4 @@
 -- `settings::sound::has_code` meets its contract: each conversion has its case of `has_code`.
-use borrow.Author.Rules.{rules}
 use mathlib.Core.Path.{sym, ◌∙◌}
 use Rattle.settings.proofs.sound.has_code.Goals as goal
 

@@ -1,5 +1,4 @@
 -- `settings::sound::is_stand_in` meets its contract: at each `return` the tests that led there are those of `is_stand_in`.
-use borrow.Author.Rules.{rules}
 use borrow.Author.Tests.{eq-eqb, ne_eqb, le-leb, lt-leb}
 use Rattle.settings.proofs.sound.is_stand_in.Goals as goal
 

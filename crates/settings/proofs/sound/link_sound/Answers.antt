@@ -1,5 +1,4 @@
 -- `settings::sound::link_sound` meets its contract: each home has its tests.
-use borrow.Author.Rules.{rules}
 use Rattle.settings.proofs.sound.link_sound.Goals as goal
 
 pub returns-in-Linked : goal.returns-in-Linked

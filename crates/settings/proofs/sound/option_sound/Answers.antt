@@ -1,6 +1,5 @@
 -- `settings::sound::option_sound` meets its contract: the range is that of its row.
 use mathlib.Core.Path.{sym, ap, ◌∙◌}
-use borrow.Author.Rules.{rules}
 use Rattle.settings.specs.Names.{Row}
 use Rattle.settings.proofs.sound.option_sound.Goals as goal
 

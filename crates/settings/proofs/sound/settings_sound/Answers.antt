@@ -1,5 +1,4 @@
 -- `settings::sound::settings_sound` meets its contract: its three tests are those of `sound_settings`.
-use borrow.Author.Rules.{rules}
 use Rattle.settings.specs.Table.{sound_settings}
 use Rattle.settings.proofs.Strings.{word_string}
 use Rattle.settings.proofs.sound.settings_sound.Goals as goal

@@ -1,5 +1,4 @@
 -- `settings::sound::stand_in_sound` meets its contract: it is the test of option 77's value.
-use borrow.Author.Rules.{rules}
 use Rattle.settings.specs.Table.{sound_stand_in}
 use Rattle.settings.specs.Options.{stand_in}
 use Rattle.settings.proofs.sound.stand_in_sound.Goals as goal

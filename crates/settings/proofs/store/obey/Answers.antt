@@ -1,5 +1,4 @@
 -- `settings::store::obey` meets its contract: only a write stores.
-use borrow.Author.Rules.{rules}
 use Rattle.settings.proofs.store.obey.Goals as goal
 
 pub returns-in-Write : goal.returns-in-Write

@@ -1,5 +1,4 @@
 -- `settings::store::store` meets its contract: each home has its own way.
-use borrow.Author.Rules.{rules}
 use Rattle.settings.proofs.store.store.Goals as goal
 
 pub returns-in-Version : goal.returns-in-Version

@@ -9,13 +9,13 @@ use Rattle.settings.specs.Options.{stand_in}
 use Rattle.settings.proofs.store.stored_stand_in.Goals as goal
 
 pub returns-in-Version : goal.returns-in-Version
-returns-in-Version c = rw c.in-Version.is c.stand_in-now.ensures
+returns-in-Version c = λ k d n ps e. rw c.in-Version.is c.stand_in-now.ensures
 
 pub returns-in-Linked : goal.returns-in-Linked
-returns-in-Linked c = rw c.in-Linked.is c.stand_in-now.ensures
+returns-in-Linked c = λ k d n ps e. rw c.in-Linked.is c.stand_in-now.ensures
 
 pub returns-in-Unlinked : goal.returns-in-Unlinked
-returns-in-Unlinked c = rw c.in-Unlinked.is c.stand_in-now.ensures
+returns-in-Unlinked c = λ k d n ps e. rw c.in-Unlinked.is c.stand_in-now.ensures
 
 pub returns-then-place-eq6 : goal.returns-then-place-eq6
 unfolding stand_in
@@ -23,27 +23,27 @@ returns-then-place-eq6 c =
     let v = c.args.s.values in
     let l : length v ≡ 7 = search rules in
     let l6 : 6 < length v = omega (arith, l) in
-    rw (c.in-Value.is, c.if-place-eq6.true) (e ∙ sym (get_or-set_same v 6 (get_or ps 0 0) 0 l6))
+    λ k d n ps e. rw (c.in-Value.is, c.if-place-eq6.true) (e ∙ sym (get_or-set_same v 6 (get_or ps 0 0) 0 l6))
 
 pub returns-else-place-eq6 : goal.returns-else-place-eq6
 unfolding stand_in
 returns-else-place-eq6 c =
     let v = c.args.s.values in
-    rw c.in-Value.is (c.stand_in-now.ensures ∙ sym (get_or-set_other v _ 6 (get_or ps 0 0) 0 (λ z. c.if-place-eq6.false (sym z))))
+    λ k d n ps e. rw c.in-Value.is (c.stand_in-now.ensures ∙ sym (get_or-set_other v _ 6 (get_or ps 0 0) 0 (λ z. c.if-place-eq6.false (sym z))))
 
 pub returns-in-String : goal.returns-in-String
 unfolding stand_in
-returns-in-String c = rw c.in-String.is c.stand_in-now.ensures
+returns-in-String c = λ k d n ps e. rw c.in-String.is c.stand_in-now.ensures
 
 pub returns-in-Power : goal.returns-in-Power
-returns-in-Power c = rw c.in-Power.is c.stand_in-now.ensures
+returns-in-Power c = λ k d n ps e. rw c.in-Power.is c.stand_in-now.ensures
 
 pub returns-in-Signal : goal.returns-in-Signal
-returns-in-Signal c = rw c.in-Signal.is c.stand_in-now.ensures
+returns-in-Signal c = λ k d n ps e. rw c.in-Signal.is c.stand_in-now.ensures
 
 pub returns-in-Factory : goal.returns-in-Factory
 unfolding stand_in
-returns-in-Factory c = rw c.in-Factory.is
+returns-in-Factory c = λ k d n ps e. rw c.in-Factory.is
 
 pub returns-in-Nowhere : goal.returns-in-Nowhere
-returns-in-Nowhere c = rw c.in-Nowhere.is c.stand_in-now.ensures
+returns-in-Nowhere c = λ k d n ps e. rw c.in-Nowhere.is c.stand_in-now.ensures

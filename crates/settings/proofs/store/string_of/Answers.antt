@@ -1,5 +1,4 @@
 -- `settings::store::string_of` meets its contract: the first eight are packed.
-use borrow.Author.Rules.{rules}
 use Rattle.settings.proofs.store.string_of.Goals as goal
 
 pub returns : goal.returns

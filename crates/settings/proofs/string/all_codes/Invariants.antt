@@ -1,12 +1,8 @@
 -- `settings::string::all_codes` meets its contract. The loop's invariant: all are codes if those from place `i` on are.
-use Prim.Native.Nat.{◌-◌, suc-le-suc}
-use mathlib.Core.Path.{◌≡◌, refl, sym}
-use native.Mathlib.Omega.{arith}
-use borrow.Author.Rules.{rules}
-use borrow.Author.Tests.{lt-ltb, le-ltb}
-use lib.ListN.{length, drop}
+use Prim.Native.Nat.{◌-◌}
+use mathlib.Core.Path.{◌≡◌}
+use lib.ListN.{drop}
 use Rattle.settings.specs.Table.{all_codes}
-use Rattle.settings.proofs.Walk as walk
 use Rattle.settings.proofs.string.all_codes.Given as goal
 
 abbrev pub invariant-loop-i : goal.invariant-loop-i

@@ -2,8 +2,7 @@
 use Prim.Native.Nat.{ℕ}
 use mathlib.Core.Path.{◌≡◌, sym, ap, ◌∙◌}
 use mathlib.Core.Bool.{Bool, ◌&&◌, and_assoc}
-use borrow.Author.Rules.{rules}
-use borrow.Author.Tests.{ltb-true, not-true, not-false}
+use borrow.Author.Tests.{ltb-true}
 use Rattle.laws.proofs.Both.{both}
 use Rattle.word.specs.Word.{unpacked, is_word}
 use Rattle.settings.specs.Table.{padded, opens, is_signal}
@@ -15,13 +14,13 @@ unfolding is_signal
 ending n b e = ap (λ (a : Bool). a && opens (unpacked n)) (sym e) ∙ and_assoc (is_word n) (padded (unpacked n)) (opens (unpacked n))
 
 pub returns-then-not-is_signal : goal.returns-then-not-is_signal
-returns-then-not-is_signal c = ending c.args.n _ (sym c.is_signal.ensures ∙ not-true _ c.if-not-is_signal.true-raw)
+returns-then-not-is_signal c = ending c.args.n _ (sym c.is_signal.ensures ∙ c.if-not-is_signal.true)
 
 pub opens-requires : goal.opens-requires
 unfolding is_signal
 opens-requires c =
     let n = c.args.n in
-    ltb-true n 1099511627776 (both (is_word n) (padded (unpacked n)) (sym c.is_signal.ensures ∙ not-false _ c.if-not-is_signal.false-raw)).0
+    ltb-true n 1099511627776 (both (is_word n) (padded (unpacked n)) (sym c.is_signal.ensures ∙ c.if-not-is_signal.false)).0
 
 pub returns : goal.returns
-returns c = c.opens.ensures ∙ ending c.args.n _ (sym c.is_signal.ensures ∙ not-false _ c.if-not-is_signal.false-raw)
+returns c = c.opens.ensures ∙ ending c.args.n _ (sym c.is_signal.ensures ∙ c.if-not-is_signal.false)

@@ -1,9 +1,8 @@
 -- `settings::string::opens` meets its contract. The loop's invariant: the codes left in the word open as all do.
 use mathlib.Core.Path.{sym, ◌∙◌}
 use mathlib.Core.Bool.{false≢true}
-use borrow.Author.Rules.{rules}
 use Rattle.settings.specs.Table.{opens}
-use Rattle.settings.proofs.Strings.{Left, all_left, falls, opens_on, opens_end}
+use Rattle.settings.proofs.Strings.{all_left, falls, opens_on, opens_end}
 use Rattle.settings.proofs.string.opens.Goals as goal
 
 pub loop-rest-init : goal.loop-rest-init

@@ -1,7 +1,6 @@
 -- `settings::string::padded` meets its contract. The loop's invariant: the codes left in the word are padded if all are.
-use borrow.Author.Tests.{eq-eqb, ne_eqb}
 use Rattle.settings.specs.Table.{padded}
-use Rattle.settings.proofs.Strings.{Left, all_left, falls, padded_on, padded_end}
+use Rattle.settings.proofs.Strings.{Left}
 use Rattle.settings.proofs.string.padded.Given as goal
 
 abbrev pub invariant-loop-rest : goal.invariant-loop-rest

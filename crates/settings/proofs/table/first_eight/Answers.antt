@@ -6,4 +6,4 @@ use Rattle.settings.proofs.Walk.{spread_all}
 use Rattle.settings.proofs.table.first_eight.Goals as goal
 
 pub returns : goal.returns
-returns c = sym (ap (take 8) (spread_all 9 0 c.args.t1 c.well_formed.0.1.0.1))
+returns c = sym (ap (take 8) (spread_all 9 0 c.args.ps (search rules)))

@@ -1,5 +1,4 @@
 -- `settings::table::in_range` meets its contract: each home has its tests.
-use borrow.Author.Rules.{rules}
 use Rattle.settings.proofs.table.in_range.Goals as goal
 
 pub returns-in-Linked : goal.returns-in-Linked

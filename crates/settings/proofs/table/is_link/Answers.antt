@@ -1,5 +1,4 @@
 -- `settings::table::is_link` meets its contract: its two tests are those of the range.
-use borrow.Author.Rules.{rules}
 use Rattle.settings.proofs.table.is_link.Goals as goal
 
 pub returns : goal.returns

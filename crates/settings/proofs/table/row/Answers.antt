@@ -1,6 +1,6 @@
 -- `settings::table::row` meets its contract: at each number the search through the table computes, and at any other none of its tests holds.
 use borrow.Author.Rules.{rules}
-use borrow.Author.Tests.{ne_eqb}
+use borrow.Author.Tests.{tests}
 use Rattle.settings.specs.Table.{row}
 use Rattle.settings.proofs.table.row.Goals as goal
 
@@ -86,6 +86,4 @@ returns-in-250 c = simp (c.in-250.is, c.is-in-250.ensures)
 
 pub returns-in_default : goal.returns-in_default
 unfolding row
-returns-in_default c =
-    let r = c.in_default.rest in
-    simp (ne_eqb _ _ r.0.0.0.0.0.0.0.0.0.0.0.0.0.0.0.0.0.0.0.1, ne_eqb _ _ r.0.0.0.0.0.0.0.0.0.0.0.0.0.0.0.0.0.0.1, ne_eqb _ _ r.0.0.0.0.0.0.0.0.0.0.0.0.0.0.0.0.0.1, ne_eqb _ _ r.0.0.0.0.0.0.0.0.0.0.0.0.0.0.0.0.1, ne_eqb _ _ r.0.0.0.0.0.0.0.0.0.0.0.0.0.0.0.1, ne_eqb _ _ r.0.0.0.0.0.0.0.0.0.0.0.0.0.0.1, ne_eqb _ _ r.0.0.0.0.0.0.0.0.0.0.0.0.0.1, ne_eqb _ _ r.0.0.0.0.0.0.0.0.0.0.0.0.1, ne_eqb _ _ r.0.0.0.0.0.0.0.0.0.0.0.1, ne_eqb _ _ r.0.0.0.0.0.0.0.0.0.0.1, ne_eqb _ _ r.0.0.0.0.0.0.0.0.0.1, ne_eqb _ _ r.0.0.0.0.0.0.0.0.1, ne_eqb _ _ r.0.0.0.0.0.0.0.1, ne_eqb _ _ r.0.0.0.0.0.0.1, ne_eqb _ _ r.0.0.0.0.0.1, ne_eqb _ _ r.0.0.0.0.1, ne_eqb _ _ r.0.0.0.1, ne_eqb _ _ r.0.0.1, ne_eqb _ _ r.0.1, ne_eqb _ _ r.1, c.is-in_default.ensures)
+returns-in_default c = search (tests, rules)

@@ -1,5 +1,4 @@
 -- `settings::table::taken_by` meets its contract: a write has all values, a read none.
-use borrow.Author.Rules.{rules}
 use Rattle.settings.proofs.table.taken_by.Goals as goal
 
 pub returns-in-Write : goal.returns-in-Write

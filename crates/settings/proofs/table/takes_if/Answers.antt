@@ -1,5 +1,4 @@
 -- `settings::table::takes_if` meets its contract: by the test.
-use borrow.Author.Rules.{rules}
 use Rattle.settings.proofs.table.takes_if.Goals as goal
 
 pub returns-then-can : goal.returns-then-can
