@@ -5,4 +5,4 @@ use Rattle.motor.proofs.is_sound.Goals as goal
 
 pub returns : goal.returns
 unfolding sound_motor
-returns c = rw (c.before.is_IsWord.ensures, c.sound_run.ensures)
+returns c = rw (c.is_word.ensures, c.sound_run.ensures)

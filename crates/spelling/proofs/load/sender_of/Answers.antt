@@ -3,4 +3,4 @@ use borrow.Author.Rules.{rules}
 use Rattle.spelling.proofs.load.sender_of.Goals as goal
 
 pub returns : goal.returns
-returns c = rw (c.before.before.before.before.before.Known-of.ensures, c.column_of.ensures, c.last_of.ensures)
+returns c = rw (c.known_of.ensures, c.column_of.ensures, c.last_of.ensures)

@@ -13,4 +13,4 @@ pub returns-in-6 : goal.returns-in-6
 returns-in-6 c = rw (c.in-6.is, c.verb_of-in-6.ensures, c.form_of.ensures)
 
 pub returns-in_default : goal.returns-in_default
-returns-in_default c = let r = c.in_default.rest in simp (c.plain_stage.ensures, ne_eqb _ _ r.0.0.1, ne_eqb _ _ r.0.1, ne_eqb _ _ r.1)
+returns-in_default c = let r = c.in_default.in_default-own.rest in simp (c.plain_stage.ensures, ne_eqb _ _ r.0.0.1, ne_eqb _ _ r.0.1, ne_eqb _ _ r.1)
