@@ -10,7 +10,11 @@ pub returns-in-Char : goal.returns-in-Char
 returns-in-Char c = rw c.in-Char.is c.put_led.ensures
 
 pub put_followed-requires : goal.put_followed-requires
-put_followed-requires c = ?
+put_followed-requires c =
+    let a = c.args in
+    rw (unled a.o a.n a.want a.k a.c (not_char a.k c.in_default.not-Char)) at c.requires
 
 pub returns : goal.returns
-returns c = ?
+returns c =
+    let a = c.args in
+    rw (unled a.o a.n a.want a.k a.c (not_char a.k c.in_default.not-Char)) c.put_followed.ensures

@@ -1,6 +1,4 @@
 -- `sender::items::put_character` meets its contract: it goes by whether the code depends on case.
-use mathlib.Core.List.{[], ◌∷◌}
-use types.Run.{miss}
 use borrow.Author.Rules.{rules}
 use Rattle.sender.proofs.Shifted.{not_char}
 use Rattle.sender.proofs.items.put_character.Goals as goal
@@ -9,4 +7,4 @@ pub put_dependent-requires : goal.put_dependent-requires
 put_dependent-requires c = (rw c.in-Char.is at c.requires.0, c.requires.1)
 
 pub put_free-requires : goal.put_free-requires
-put_free-requires c = (c.requires.0, not_char c.args.k (λ bell z. miss (0 ∷ 1 ∷ 2 ∷ 3 ∷ []) 4 tt (rw z at c.in_default.in_default-own.keys2)), c.requires.1)
+put_free-requires c = (c.requires.0, not_char c.args.k c.in_default.not-Char, c.requires.1)
