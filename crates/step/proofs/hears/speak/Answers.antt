@@ -1,7 +1,5 @@
 -- `step::hears::speak` meets its contract: where the byte has no code it is the stand-in's conversion.
 use mathlib.Core.Path.{sym, ◌∙◌}
-use mathlib.Core.List.{[], ◌∷◌}
-use types.Run.{miss}
 use borrow.Author.Rules.{rules}
 use borrow.Author.Tests.{eq-eqb, ne_eqb}
 use Rattle.code.specs.Convert.{conversion}
@@ -21,4 +19,4 @@ pub returns : goal.returns
 returns c =
     let a = c.args in
     let g = c.convert-own.ensures.gives in
-    g ∙ sym (itself (conversion a.b) (standing a.o) (λ z. miss (1 ∷ 2 ∷ []) 0 tt (rw (g ∙ z) at c.in_default.keys2)))
+    g ∙ sym (itself (conversion a.b) (standing a.o) (λ z. c.in_default.not-Nothing (g ∙ z)))
