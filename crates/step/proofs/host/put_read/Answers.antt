@@ -3,7 +3,6 @@ use mathlib.Core.Path.{refl}
 use mathlib.Core.List.{[], ◌∷◌}
 use native.Mathlib.Omega.{arith}
 use lib.ListN.{length-drop}
-use types.Run.{miss}
 use Rattle.laws.proofs.Tail.{to_end}
 use Rattle.step.specs.Names.{Host}
 use Rattle.step.specs.State.{with_reader}
@@ -25,25 +24,14 @@ returns-in-Finished c =
 pub slice_bounds-put_text-count : goal.slice_bounds-put_text-count
 slice_bounds-put_text-count c = omega (arith, c.said_by-said.ensures.1)
 
--- left: part-put-text-start : tie.Need-slice-bounds-put-text-start
--- part-put-text-start c =
---     let h = c.before.said-by.ensures.1 in
---     search rules
-
--- left: part-put-text-end : tie.Need-slice-bounds-put-text-end
--- part-put-text-end c =
---     let h = c.before.said-by.ensures.1 in
---     search rules
-
 pub put_text-requires : goal.put_text-requires
 put_text-requires c =
-    let x = c.before.before.before.before.said-by.result in
+    let x = c.said_by-said.result in
     rw (to_end (47 ∷ x.byte ∷ []) x.from) (omega (arith, length-drop x.from (47 ∷ x.byte ∷ [])))
 
 pub returns : goal.returns
 returns c =
-    let a = d.before.before.before.before.before.before.args in
-    let x = c.before.before.before.before.before.before.before.before.before.said-by in
-    let m = c.before.before.before.before.before.before.before.before.before.before.match in
-    rw (hosted_said (with_reader a.s a.x.reader) a.s.reader.values a.x.out (λ v n z. miss (0 ∷ 1 ∷ 2 ∷ []) 3 tt (rw z at m.keys2)))
-    (rw (d.with-reader.ensures, to_end (47 ∷ x.result.byte ∷ []) x.result.from, x.ensures.0) at c.put_text.ensures)
+    let a = c.args in
+    let x = c.said_by-said in
+    rw (hosted_said (with_reader a.s a.x.reader) a.s.reader.values a.x.out c.in_default.not-Finished)
+    (rw (c.with_reader-t.ensures, to_end (47 ∷ x.result.byte ∷ []) x.result.from, x.ensures.0) at c.put_text.ensures)
