@@ -1,9 +1,7 @@
 -- `step::hears::told_size` meets its contract: at most two messages of 17 bytes.
-use Prim.Native.Nat.{◌≤◌}
-use mathlib.Core.Path.{◌≡◌, sym, ◌∙◌}
+use mathlib.Core.Path.{sym}
 use native.Mathlib.Omega.{arith}
-use borrow.Author.Rules.{rules}
-use lib.ListN.{length, length-append}
+use lib.ListN.{length-append}
 use Rattle.step.specs.Hear.{change}
 use Rattle.step.proofs.Hearing.{change_short}
 use Rattle.step.proofs.hears.told_size.Goals as goal

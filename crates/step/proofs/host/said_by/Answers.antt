@@ -1,7 +1,5 @@
 -- `step::host::said_by` meets its contract: each has its case of `text_of`.
-use mathlib.Core.Path.{refl}
 use native.Mathlib.Omega.{arith}
-use borrow.Author.Rules.{rules}
 use Rattle.step.proofs.host.said_by.Goals as goal
 
 pub returns-in-Nothing : goal.returns-in-Nothing

@@ -5,7 +5,6 @@ use native.Mathlib.Omega.{arith}
 use lib.ListN.{length}
 use borrow.Author.Tests.{le-leb, lt-leb}
 use Rattle.laws.proofs.Filled.{filled_sets}
-use borrow.Author.Rules.{rules}
 use Rattle.step.proofs.puts.put_one.Goals as goal
 
 pub returns-then-out-gt0 : goal.returns-then-out-gt0

@@ -1,5 +1,4 @@
 -- `step::routes::prints` meets its contract: by the route.
-use borrow.Author.Rules.{rules}
 use mathlib.Core.Path.{sym, ◌∙◌}
 use Rattle.step.proofs.routes.prints.Goals as goal
 
