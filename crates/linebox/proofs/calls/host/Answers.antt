@@ -1,6 +1,5 @@
 -- `linebox::calls::host` meets its contract: a sound state is taken on, and any other answered 3.
 use mathlib.Core.Path.{refl, sym, ◌∙◌}
-use borrow.Author.Rules.{rules}
 use Rattle.linebox.proofs.calls.host.Goals as goal
 
 pub take_host-requires : goal.take_host-requires

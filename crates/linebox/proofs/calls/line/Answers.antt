@@ -1,6 +1,5 @@
 -- `linebox::calls::line` meets its contract: a sound state is taken on, and any other answered 3.
 use mathlib.Core.Path.{refl, sym, ◌∙◌}
-use borrow.Author.Rules.{rules}
 use Rattle.linebox.proofs.calls.line.Goals as goal
 
 pub take_line-requires : goal.take_line-requires

@@ -4,7 +4,6 @@ use native.Mathlib.Omega.{arith}
 use Prim.Native.Nat.{◌≤◌}
 use lib.ListN.{length, drop_of_length-le}
 use Rattle.laws.proofs.Tail.{to_end}
-use borrow.Author.Rules.{rules}
 use Rattle.linebox.proofs.calls.rest.Goals as goal
 
 pub returns-then-taken-input : goal.returns-then-taken-input

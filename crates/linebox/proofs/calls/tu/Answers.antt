@@ -1,6 +1,5 @@
 -- `linebox::calls::tu` meets its contract: a sound state is taken on, and any other answered 3.
 use mathlib.Core.Path.{refl, sym, ◌∙◌}
-use borrow.Author.Rules.{rules}
 use Rattle.linebox.proofs.calls.tu.Goals as goal
 
 pub take_tu-requires : goal.take_tu-requires

@@ -1,6 +1,5 @@
 -- `linebox::runs::run_codes` meets its contract: codes up to 31 are a run of plain bytes.
 use Rattle.linebox.proofs.PlainText.{codes_run}
-use borrow.Author.Rules.{rules}
 use Rattle.linebox.proofs.runs.run_codes.Goals as goal
 
 pub returns : goal.returns

@@ -1,6 +1,5 @@
 -- `linebox::runs::run_text` meets its contract: text with nothing held is a run of plain bytes.
 use Rattle.linebox.proofs.PlainText.{text_none, text_runs}
-use borrow.Author.Rules.{rules}
 use Rattle.linebox.proofs.runs.run_text.Goals as goal
 
 pub returns-then-x-eq0 : goal.returns-then-x-eq0

@@ -2,7 +2,6 @@
 use mathlib.Core.Path.{sym, ◌∙◌}
 use Rattle.linebox.specs.Names.{Tu}
 use Rattle.linebox.proofs.PlainText.{unmoved}
-use borrow.Author.Rules.{rules}
 use Rattle.linebox.proofs.runs.take_codes.Goals as goal
 
 pub returns-then-is_heard : goal.returns-then-is_heard
