@@ -3,7 +3,6 @@ use Prim.Native.Nat.{ℕ, ◌≤◌, ◌<◌, ◌+◌, ◌-◌}
 use mathlib.Core.Path.{◌≡◌, ◌∙◌}
 use mathlib.Core.Bool.{cond}
 use mathlib.Core.List.{List}
-use mathlib.Core.Logic.{⊎_elim}
 use native.Mathlib.Omega.{arith}
 use native.Mathlib.Numerals.{add-one}
 use native.Mathlib.Nat.{zero-add}
@@ -14,6 +13,7 @@ use borrow.Author.Rules.{rules}
 use borrow.Author.Tests.{eq-eqb, ne_eqb}
 use Rattle.judgement.specs.Line.{count_of}
 use Rattle.judgement.proofs.lines.count_of.Goals as goal
+use Rattle.judgement.proofs.lines.count_of.Goals.{then-stand-i, else-stand-i}
 
 turn : (v : ℕ) (xs : List ℕ) (i : ℕ) → i < length xs → count_of v (drop i xs) ≡ cond (eqb (get_or xs i 0) v) 1 0 + count_of v (drop (i + 1) xs)
 turn v xs i h = rw (drop-cons xs i 0 h, add-one)
@@ -34,17 +34,17 @@ pub loop-i-preserved : goal.loop-i-preserved
 loop-i-preserved c =
     let l = c.loop-i in
     let a = c.args in
-    let n : length a.t2 ≡ 256 = c.well_formed.1.0.1.0.1 in
-    let h : l.i < length a.t2 = omega arith in
-    ⊎_elim
-    (λ w. (omega arith, omega arith, omega (arith, hit a.v a.t2 l.i h w.0.taken)))
-    (λ w. (omega arith, omega arith, omega (arith, miss a.v a.t2 l.i h w.0.left)))
-    c.if-stand-i.branch
+    let n : length a.stand ≡ 256 = c.well_formed.1.0.1.0.1 in
+    let h : l.i < length a.stand = omega arith in
+    elim c.if-stand-i.branch [
+        then-stand-i w ↦ (omega arith, omega arith, omega (arith, hit a.v a.stand l.i h w.if-stand-i.true))
+        | else-stand-i w ↦ (omega arith, omega arith, omega (arith, miss a.v a.stand l.i h w.if-stand-i.false))
+    ]
 
 pub returns : goal.returns
 returns c =
     let l = c.loop-i in
     let a = c.args in
-    let n : length a.t2 ≡ 256 = c.well_formed.1.0.1.0.1 in
-    let h : length a.t2 ≤ l.i = omega arith in
-    (omega arith, omega (arith, all a.v a.t2 l.i h))
+    let n : length a.stand ≡ 256 = c.well_formed.1.0.1.0.1 in
+    let h : length a.stand ≤ l.i = omega arith in
+    (omega arith, omega (arith, all a.v a.stand l.i h))

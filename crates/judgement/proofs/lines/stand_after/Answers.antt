@@ -4,7 +4,7 @@ use borrow.Author.Rules.{rules}
 use Rattle.judgement.proofs.lines.stand_after.Goals as goal
 
 pub returns-then-was-eq0 : goal.returns-then-was-eq0
-returns-then-was-eq0 c = simp (eq-eqb _ _ c.if-was-eq0.true, c.number_of_lem.ensures)
+returns-then-was-eq0 c = simp (eq-eqb _ _ c.if-was-eq0.true, c.number_of.ensures)
 
 pub returns-else-was-eq0 : goal.returns-else-was-eq0
 returns-else-was-eq0 c = simp (ne_eqb _ _ c.if-was-eq0.false)

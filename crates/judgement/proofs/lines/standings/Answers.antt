@@ -27,16 +27,16 @@ pub loop-i-preserved : goal.loop-i-preserved
 loop-i-preserved c =
     let l = c.loop-i in
     let a = c.args in
-    let n : length a.t2 ≡ 256 = c.well_formed.1.0.1.0.1 in
+    let n : length a.stand ≡ 256 = c.well_formed.1.0.1.0.1 in
     let h : l.i < length l.r = omega arith in
-    let k : l.i < length a.t2 = omega arith in
-    (omega arith, simp length-set l.invariant.1, turn a.strays l.r a.t2 l.i _ h k l.invariant.2 c.standing.ensures)
+    let k : l.i < length a.stand = omega arith in
+    (omega arith, simp length-set l.invariant.1, turn a.strays l.r a.stand l.i _ h k l.invariant.2 c.standing.ensures)
 
 pub returns : goal.returns
 returns c =
     let l = c.loop-i in
     let a = c.args in
-    let n : length a.t2 ≡ 256 = c.well_formed.1.0.1.0.1 in
+    let n : length a.stand ≡ 256 = c.well_formed.1.0.1.0.1 in
     let h : length l.r ≤ l.i = omega arith in
-    let k : length a.t2 ≤ l.i = omega arith in
-    all a.strays l.r a.t2 l.i h k l.invariant.2
+    let k : length a.stand ≤ l.i = omega arith in
+    all a.strays l.r a.stand l.i h k l.invariant.2
