@@ -1,5 +1,5 @@
 -- `judgement::lines::count_of` meets its contract. The invariant: those counted and those in what remains are all.
-use Prim.Native.Nat.{ℕ, ◌≤◌, ◌<◌, ◌+◌, ◌-◌}
+use Prim.Native.Nat.{ℕ, ◌≤◌, ◌<◌, ◌+◌}
 use mathlib.Core.Path.{◌≡◌, ◌∙◌}
 use mathlib.Core.Bool.{cond}
 use mathlib.Core.List.{List}
@@ -37,8 +37,8 @@ loop-i-preserved c =
     let n : length a.stand ≡ 256 = c.well_formed.1.0.1.0.1 in
     let h : l.i < length a.stand = omega arith in
     elim c.if-stand-i.branch [
-        then-stand-i w ↦ (omega arith, omega arith, omega (arith, hit a.v a.stand l.i h w.if-stand-i.true))
-        | else-stand-i w ↦ (omega arith, omega arith, omega (arith, miss a.v a.stand l.i h w.if-stand-i.false))
+      | then-stand-i w ↦ (omega arith, omega arith, omega (arith, hit a.v a.stand l.i h w.if-stand-i.true))
+      | else-stand-i w ↦ (omega arith, omega arith, omega (arith, miss a.v a.stand l.i h w.if-stand-i.false))
     ]
 
 pub returns : goal.returns

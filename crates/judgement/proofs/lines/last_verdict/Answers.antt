@@ -1,5 +1,4 @@
 -- `judgement::lines::last_verdict` meets its contract: each landing has its case of `final`.
-use borrow.Author.Rules.{rules}
 use Rattle.judgement.proofs.lines.last_verdict.Goals as goal
 
 pub returns-in-There : goal.returns-in-There

@@ -1,5 +1,4 @@
 -- `judgement::lines::plus_tally` meets its contract: each count is the sum of two.
-use borrow.Author.Rules.{rules}
 use Rattle.judgement.proofs.lines.plus_tally.Goals as goal
 
 pub returns : goal.returns

@@ -1,6 +1,5 @@
 -- `judgement::lines::stand_after` meets its contract: the test picks its case of `stand_after`.
 use borrow.Author.Tests.{eq-eqb, ne_eqb}
-use borrow.Author.Rules.{rules}
 use Rattle.judgement.proofs.lines.stand_after.Goals as goal
 
 pub returns-then-was-eq0 : goal.returns-then-was-eq0

@@ -1,13 +1,8 @@
 -- `judgement::lines::standings` meets its contract. The invariant: the places passed are set as they stand.
-use Prim.Native.Nat.{ℕ, ◌≤◌, ◌<◌, ◌+◌, ◌-◌}
-use mathlib.Core.Path.{◌≡◌, refl, ap, sym, ◌∙◌}
-use mathlib.Core.List.{List, [], ◌∷◌, ◌++◌}
-use native.Mathlib.Omega.{arith}
-use native.Mathlib.Numerals.{add-one}
-use lib.ListN.{length, get_or, take, set, length-set, length-replicate}
-use lib.Seq.{take-suc, take-suc-set, take_all}
-use borrow.Author.Rules.{rules}
-use Rattle.judgement.specs.Line.{standing, standings}
+use Prim.Native.Nat.{◌≤◌, ◌-◌}
+use mathlib.Core.Path.{◌≡◌}
+use lib.ListN.{length, take}
+use Rattle.judgement.specs.Line.{standings}
 use Rattle.judgement.proofs.lines.standings.Given as goal
 
 abbrev pub invariant-loop-i : goal.invariant-loop-i

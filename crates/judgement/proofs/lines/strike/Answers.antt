@@ -1,5 +1,4 @@
 -- `judgement::lines::strike` meets its contract: each landing has its case of `strike_at`.
-use borrow.Author.Rules.{rules}
 use Rattle.judgement.proofs.lines.strike.Goals as goal
 
 pub returns-in-There : goal.returns-in-There

@@ -1,5 +1,4 @@
 -- `judgement::lines::strike_somewhere` meets its contract: one place is set, and one stray more.
-use borrow.Author.Rules.{rules}
 use Rattle.judgement.proofs.lines.strike_somewhere.Goals as goal
 
 pub returns : goal.returns

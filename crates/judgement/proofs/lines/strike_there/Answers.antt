@@ -1,5 +1,4 @@
 -- `judgement::lines::strike_there` meets its contract: one place is set, by what stood there.
-use borrow.Author.Rules.{rules}
 use Rattle.judgement.proofs.lines.strike_there.Goals as goal
 
 pub returns : goal.returns

@@ -1,6 +1,5 @@
 -- `judgement::lines::tally_of` meets its contract: each count is that of its function.
 use borrow.Author.Tests.{eq-eqb, ne_eqb}
-use borrow.Author.Rules.{rules}
 use Rattle.judgement.proofs.lines.tally_of.Goals as goal
 
 pub returns-then-l-eq0 : goal.returns-then-l-eq0

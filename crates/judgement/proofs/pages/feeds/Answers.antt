@@ -1,5 +1,4 @@
 -- `judgement::pages::feeds` meets its contract: the character that it reads is the one that `feeds` asks.
-use borrow.Author.Rules.{rules}
 use Rattle.judgement.proofs.pages.feeds.Goals as goal
 
 pub returns : goal.returns

@@ -1,5 +1,4 @@
 -- `judgement::pages::judgement` meets its contract: each field is what its function says.
-use borrow.Author.Rules.{rules}
 use Rattle.judgement.proofs.pages.judgement.Goals as goal
 
 pub returns : goal.returns

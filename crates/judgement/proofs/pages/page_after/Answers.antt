@@ -1,5 +1,4 @@
 -- `judgement::pages::page_after` meets its contract: a line feed ends the line, and anything else may strike on it.
-use borrow.Author.Rules.{rules}
 use Rattle.judgement.proofs.pages.page_after.Goals as goal
 
 pub returns-then-feeds : goal.returns-then-feeds

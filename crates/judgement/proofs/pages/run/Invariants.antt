@@ -1,15 +1,8 @@
 -- `judgement::pages::run` meets its contract. The invariant: what remains of the codes gives, from here, what all of them give.
-use Prim.Native.Nat.{ℕ, ◌≤◌, ◌<◌, ◌+◌, ◌-◌}
-use mathlib.Core.Path.{◌≡◌, refl, sym, ◌∙◌}
-use mathlib.Core.List.{List}
-use native.Mathlib.Omega.{arith}
-use native.Mathlib.Numerals.{add-one}
-use lib.ListN.{length, get_or, drop, drop_of_length-le}
-use lib.Seq.{drop-cons}
-use borrow.Author.Rules.{rules}
-use borrow.Author.Tests.{lt-ltb, le-ltb}
-use Rattle.judgement.specs.Names.{Page, Taken, NoCode, Run}
-use Rattle.judgement.specs.Page.{page_after, run_from}
+use Prim.Native.Nat.{◌≤◌, ◌-◌}
+use mathlib.Core.Path.{◌≡◌}
+use lib.ListN.{length, drop}
+use Rattle.judgement.specs.Page.{run_from}
 use Rattle.judgement.proofs.pages.run.Given as goal
 
 abbrev pub invariant-loop-i : goal.invariant-loop-i

@@ -1,5 +1,4 @@
 -- `judgement::pages::start` meets its contract: the place is within the stop, and the rest is as given.
-use borrow.Author.Rules.{rules}
 use Rattle.judgement.proofs.pages.start.Goals as goal
 
 pub returns : goal.returns

@@ -1,6 +1,5 @@
 -- `judgement::pages::step` meets its contract: below 32 the code is taken.
 use borrow.Author.Tests.{le-ltb, lt-ltb}
-use borrow.Author.Rules.{rules}
 use Rattle.judgement.proofs.pages.step.Goals as goal
 
 pub returns-then-c-lt32 : goal.returns-then-c-lt32

@@ -1,5 +1,4 @@
 -- `judgement::pages::totals` meets its contract: it is the sum of two tallies.
-use borrow.Author.Rules.{rules}
 use Rattle.judgement.proofs.pages.totals.Goals as goal
 
 pub returns : goal.returns

@@ -1,5 +1,4 @@
 -- `judgement::strikes::own` meets its contract: each case of the definition is one of the code.
-use borrow.Author.Rules.{rules}
 use Rattle.judgement.proofs.strikes.own.Goals as goal
 
 pub returns-in-Char : goal.returns-in-Char

@@ -1,5 +1,4 @@
 -- `judgement::strikes::own_char` meets its contract: each case of the definition is one of the code.
-use borrow.Author.Rules.{rules}
 use Rattle.judgement.proofs.strikes.own_char.Goals as goal
 
 pub returns-in-Figures : goal.returns-in-Figures

@@ -1,5 +1,4 @@
 -- `judgement::strikes::placed` meets its contract: each case of the definition is one of the code.
-use borrow.Author.Rules.{rules}
 use Rattle.judgement.proofs.strikes.placed.Goals as goal
 
 pub returns-in-At : goal.returns-in-At

@@ -1,5 +1,4 @@
 -- `judgement::strikes::sign_as` meets its contract: each case of the definition is one of the code.
-use borrow.Author.Rules.{rules}
 use Rattle.judgement.proofs.strikes.sign_as.Goals as goal
 
 pub returns-in-Still : goal.returns-in-Still

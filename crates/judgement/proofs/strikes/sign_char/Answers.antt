@@ -1,5 +1,4 @@
 -- `judgement::strikes::sign_char` meets its contract: each case of the definition is one of the code.
-use borrow.Author.Rules.{rules}
 use Rattle.judgement.proofs.strikes.sign_char.Goals as goal
 
 pub returns-in-Is : goal.returns-in-Is

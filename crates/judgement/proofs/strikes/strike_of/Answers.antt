@@ -1,5 +1,4 @@
 -- `judgement::strikes::strike_of` meets its contract: each case of the definition is one of the code.
-use borrow.Author.Rules.{rules}
 use Rattle.judgement.proofs.strikes.strike_of.Goals as goal
 
 pub returns : goal.returns

@@ -1,5 +1,4 @@
 -- `judgement::watches::shown` meets its contract: the flag picks the case.
-use borrow.Author.Rules.{rules}
 use Rattle.judgement.proofs.watches.shown.Goals as goal
 
 pub returns-then-fell : goal.returns-then-fell

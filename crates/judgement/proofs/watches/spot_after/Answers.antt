@@ -1,5 +1,4 @@
 -- `judgement::watches::spot_after` meets its contract: each case of the definition is one of the code.
-use borrow.Author.Rules.{rules}
 use Rattle.judgement.proofs.watches.spot_after.Goals as goal
 
 pub returns-in-Space : goal.returns-in-Space

@@ -1,5 +1,4 @@
 -- `judgement::watches::spot_char` meets its contract: each case of the definition is one of the code.
-use borrow.Author.Rules.{rules}
 use Rattle.judgement.proofs.watches.spot_char.Goals as goal
 
 pub returns-in-Unknown : goal.returns-in-Unknown

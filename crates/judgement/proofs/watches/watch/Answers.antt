@@ -1,5 +1,4 @@
 -- `judgement::watches::watch` meets its contract: each case of the definition is one of the code.
-use borrow.Author.Rules.{rules}
 use Rattle.judgement.proofs.watches.watch.Goals as goal
 
 pub returns : goal.returns

@@ -3,7 +3,6 @@ use Rattle.judgement.specs.Names.{At}
 use native.Mathlib.Omega.{arith}
 use mathlib.Core.Path.{ap}
 use borrow.Author.Tests.{le-ltb, lt-ltb}
-use borrow.Author.Rules.{rules}
 use Rattle.judgement.proofs.watches.within.Goals as goal
 
 pub returns-then-n-stop : goal.returns-then-n-stop
