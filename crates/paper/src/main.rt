@@ -7,230 +7,239 @@ mod reading;
 mod show;
 
 use judgement::{Line, Tally, lines, pages};
-use libc::{STDIN_FILENO, STDOUT_FILENO};
 use options::Options;
 use reading::Record;
 use show::Stretch;
+use std::env::{Env, FillError};
+use std::io::Read;
 use words::Reader;
 
+// Prints some bytes, as far as they can be written.
+fn print(rt: &impl Print, s: &[u8]) {
+    let _ = rt.write_all(s);
+}
+
+// Prints a number in decimal, as far as it can be written.
+fn print_decimal(rt: &impl Print, n: u64) {
+    let _ = rt.print(n);
+}
+
 // Prints the first bytes, so many as there are.
-fn print_front(s: &[u8], n: usize) {
+fn print_front(rt: &impl Print, s: &[u8], n: usize) {
     if n <= s.len() {
-        io::write_all(STDOUT_FILENO, &s[0..n]);
+        print(rt, &s[0..n]);
     } else {
-        io::write_all(STDOUT_FILENO, s);
-        io::write_all(STDOUT_FILENO, b"..");
+        print(rt, s);
+        print(rt, b"..");
     }
 }
 
 // Says which word is no code, and that the page ends before it.
-fn print_bad_word(r: Reader) {
+fn print_bad_word(rt: &impl Print, r: Reader) {
     let held = r.held;
     let size = r.size;
-    io::write_all(STDOUT_FILENO, b"paper: word ");
-    io::print_decimal(STDOUT_FILENO, r.place);
-    io::write_all(STDOUT_FILENO, b", `");
-    print_front(&held, size);
-    io::write_all(
-        STDOUT_FILENO,
+    print(rt, b"paper: word ");
+    print_decimal(rt, r.place);
+    print(rt, b", `");
+    print_front(rt, &held, size);
+    print(
+        rt,
         b"`, is no code from 0 to 31: nothing from its line on is shown\n",
     );
 }
 
 // Prints a row after a mark.
-fn print_row(mark: &[u8], row: [u8; 256]) {
+fn print_row(rt: &impl Print, mark: &[u8], row: [u8; 256]) {
     let n = show::row_size(&row);
     let mut text = row;
     show::space(&mut text);
-    io::write_all(STDOUT_FILENO, mark);
-    io::write_all(STDOUT_FILENO, &text[0..n]);
-    io::write_all(STDOUT_FILENO, b"\n");
+    print(rt, mark);
+    print(rt, &text[0..n]);
+    print(rt, b"\n");
 }
 
 // Prints a stretch that is held.
-fn print_stretch(s: Stretch) {
+fn print_stretch(rt: &impl Print, s: Stretch) {
     if s.held {
-        io::write_all(STDOUT_FILENO, b" ");
-        io::print_decimal(STDOUT_FILENO, s.from as u64);
+        print(rt, b" ");
+        print_decimal(rt, s.from as u64);
         if s.from < s.to {
-            io::write_all(STDOUT_FILENO, b"-");
-            io::print_decimal(STDOUT_FILENO, s.to as u64);
+            print(rt, b"-");
+            print_decimal(rt, s.to as u64);
         }
     }
 }
 
 // Prints the places that stand as `v`, after a name, if there are any.
-fn print_places(name: &[u8], standings: &[u8], v: u8) {
+fn print_places(rt: &impl Print, name: &[u8], standings: &[u8], v: u8) {
     if show::has(standings, v) {
-        io::write_all(STDOUT_FILENO, name);
+        print(rt, name);
     }
     let mut s = show::no_stretch();
     let mut i = 0;
     while i < standings.len() {
         let next = show::after_place(s, i, standings[i], v);
         if !next.held {
-            print_stretch(s);
+            print_stretch(rt, s);
         }
         s = next;
         i += 1;
     }
-    print_stretch(s);
+    print_stretch(rt, s);
 }
 
 // Prints which places of a line can be kept, and which cannot.
-fn print_kept(line: Line, number: u64) {
+fn print_kept(rt: &impl Print, line: Line, number: u64) {
     let stand = line.stand;
     let standings = lines::standings(line.strays, stand);
-    io::write_all(STDOUT_FILENO, b"  line ");
-    io::print_decimal(STDOUT_FILENO, number);
+    print(rt, b"  line ");
+    print_decimal(rt, number);
     if show::has(&standings, 1) {
-        print_places(b": kept", &standings, 1);
+        print_places(rt, b": kept", &standings, 1);
     } else if show::is_marked(line) {
-        io::write_all(STDOUT_FILENO, b": kept none");
+        print(rt, b": kept none");
     } else {
-        io::write_all(STDOUT_FILENO, b": nothing struck");
+        print(rt, b": nothing struck");
     }
-    print_places(b"; turned", &standings, 2);
-    print_places(b"; struck over", &standings, 3);
-    print_places(b"; unknown", &standings, 4);
+    print_places(rt, b"; turned", &standings, 2);
+    print_places(rt, b"; struck over", &standings, 3);
+    print_places(rt, b"; unknown", &standings, 4);
     if line.strays > 0 {
-        io::write_all(STDOUT_FILENO, b"; unknown where ");
-        io::print_decimal(STDOUT_FILENO, line.strays);
+        print(rt, b"; unknown where ");
+        print_decimal(rt, line.strays);
     }
-    io::write_all(STDOUT_FILENO, b"\n");
+    print(rt, b"\n");
 }
 
 // Prints a line of the paper and what of it can be kept. What is at no known place goes on a row of its own.
-fn print_line(line: Line, number: u64) {
+fn print_line(rt: &impl Print, line: Line, number: u64) {
     let ink = line.ink;
     let drift = line.drift;
     if line.strays > 0 {
-        print_row(b"~", drift);
+        print_row(rt, b"~", drift);
     }
     if line.landed > 0 || line.strays == 0 {
-        print_row(b"|", ink);
+        print_row(rt, b"|", ink);
     }
-    print_kept(line, number);
+    print_kept(rt, line, number);
 }
 
 // Prints the totals.
-fn print_totals(t: Tally) {
-    io::write_all(STDOUT_FILENO, b"total: kept ");
-    io::print_decimal(STDOUT_FILENO, t.kept);
-    io::write_all(STDOUT_FILENO, b", turned ");
-    io::print_decimal(STDOUT_FILENO, t.turned);
-    io::write_all(STDOUT_FILENO, b", struck over ");
-    io::print_decimal(STDOUT_FILENO, t.over);
-    io::write_all(STDOUT_FILENO, b", unknown ");
-    io::print_decimal(STDOUT_FILENO, t.unknown);
-    io::write_all(STDOUT_FILENO, b"\n");
+fn print_totals(rt: &impl Print, t: Tally) {
+    print(rt, b"total: kept ");
+    print_decimal(rt, t.kept);
+    print(rt, b", turned ");
+    print_decimal(rt, t.turned);
+    print(rt, b", struck over ");
+    print_decimal(rt, t.over);
+    print(rt, b", unknown ");
+    print_decimal(rt, t.unknown);
+    print(rt, b"\n");
 }
 
 // Says which argument is none, and what there is.
-fn print_bad_argument(i: usize, s: &[u8]) {
-    io::write_all(STDOUT_FILENO, b"paper: argument ");
-    io::print_decimal(STDOUT_FILENO, i as u64);
-    io::write_all(STDOUT_FILENO, b", `");
-    io::write_all(STDOUT_FILENO, s);
-    io::write_all(
-        STDOUT_FILENO,
+fn print_bad_argument(rt: &impl Print, i: usize, s: &[u8]) {
+    print(rt, b"paper: argument ");
+    print_decimal(rt, i as u64);
+    print(rt, b", `");
+    print(rt, s);
+    print(
+        rt,
         b"`, is none of these:\n  stop=N  (72) the right stop, 0 to 255: how many places stand before it\n",
     );
-    io::write_all(
-        STDOUT_FILENO,
+    print(
+        rt,
         b"  space=unshifts or space=keeps  (keeps)\n  return=unshifts or return=keeps  (keeps)\n",
     );
-    io::write_all(
-        STDOUT_FILENO,
+    print(
+        rt,
         b"  case=letters, case=figures or case=unknown  (unknown) at the start\n",
     );
-    io::write_all(
-        STDOUT_FILENO,
+    print(
+        rt,
         b"  place=N or place=unknown  (unknown) at the start, 0 to 255\n",
     );
 }
 
-// The options after the argument of this number.
-fn read_argument(o: Options, i: usize) -> Options {
+// The options after the argument of this number, if there is one.
+fn read_argument(rt: &(impl Print + Env), o: Options, i: usize) -> Option<Options> {
     let mut buf = [0u8; 64];
-    let n = os::arg(i, &mut buf);
-    if os::errno() != 0 {
-        print_bad_argument(i, &buf);
-        return options::refused(o);
+    match rt.arg(i, &mut buf) {
+        Ok(n) => {
+            let next = options::with_argument(o, &buf[..n]);
+            if !next.good {
+                print_bad_argument(rt, i, &buf[..n]);
+            }
+            Some(next)
+        }
+        Err(FillError::TooLong) => {
+            print_bad_argument(rt, i, &buf);
+            Some(options::refused(o))
+        }
+        Err(FillError::NotPresent) => None,
     }
-    let next = options::with_argument(o, &buf[..n]);
-    if !next.good {
-        print_bad_argument(i, &buf[..n]);
-    }
-    next
 }
 
 // What all arguments say, up to one that is none.
-fn read_arguments() -> Options {
+fn read_arguments(rt: &(impl Print + Env)) -> Options {
     let mut o = options::start();
-    let count = os::arg_count();
-    let mut i = 1;
-    while i < count {
-        if o.good {
-            o = read_argument(o, i);
+    for i in 1..usize::MAX {
+        if !o.good {
+            return o;
         }
-        i += 1;
+        match read_argument(rt, o, i) {
+            Some(next) => o = next,
+            None => return o,
+        }
     }
     o
 }
 
 // At the end of the record: its last word, the line that was not fed out, and the totals.
-fn finish(r: Record) {
-    let last = reading::after_last(r);
+fn finish(rt: &impl Print, r: Record) {
+    let last = reading::after_last(rt, r);
     let page = last.page;
     let line = page.line;
     if last.goes {
         if show::is_marked(line) {
-            print_line(line, last.number);
+            print_line(rt, line, last.number);
         }
-        print_totals(pages::totals(page));
+        print_totals(rt, pages::totals(page));
     }
 }
 
-// The record after one more read of standard input. At its end it is finished, and goes no further.
-fn take_some(r: Record) -> Record {
-    let mut buf = io::buffer();
-    let got = libc::read(STDIN_FILENO, &mut buf);
-    if got > 0 {
-        let n = io::count(got, &buf);
-        return reading::after_bytes(r, &buf[..n]);
-    }
-    if got == 0 {
-        finish(r);
-    } else {
-        io::write_all(
-            STDOUT_FILENO,
-            b"paper: the record cannot be read to its end\n",
-        );
+// The record after one more read of its input. At its end it is finished, and goes no further.
+fn take_some(rt: &impl Print, input: &mut impl Read, r: Record) -> Record {
+    let mut buf = [0u8; 4096];
+    match input.read(&mut buf) {
+        Ok(0) => finish(rt, r),
+        Ok(n) => return reading::after_bytes(rt, r, &buf[..n]),
+        Err(_) => print(rt, b"paper: the record cannot be read to its end\n"),
     }
     reading::stopped(r)
 }
 
 // Reads the record to its end. A proved loop has to end, so it counts its turns down from a number that no run uses up.
-fn take_all(first: Record) {
+fn take_all(rt: &impl Print, input: &mut impl Read, first: Record) {
     let mut r = first;
     let mut turns = u64::MAX;
     while turns > 0 && r.goes {
-        r = take_some(r);
+        r = take_some(rt, input, r);
         turns -= 1;
     }
 }
 
-fn main() {
-    let o = read_arguments();
+fn main(rt: HostRuntime) {
+    let o = read_arguments(&rt);
     if o.good {
         let case = o.case;
         let spot = o.spot;
-        take_all(Record {
+        let first = Record {
             reader: words::fresh(),
             page: pages::start(case, spot, o.stop, o.onspace, o.onreturn),
             number: 1,
             goes: true,
-        });
+        };
+        take_all(&rt, &mut rt.reader(), first);
     }
 }

@@ -37,7 +37,7 @@ fn read_to(r: Record, reader: Reader, goes: bool) -> Record
 }
 
 // The record after a code; a line feed shows the line that it ends.
-fn after_code(r: Record, reader: Reader, c: u8) -> Record
+fn after_code(rt: &impl Print, r: Record, reader: Reader, c: u8) -> Record
     ensures { result ≡ after_code r reader c }
 {
     let page = r.page;
@@ -45,11 +45,11 @@ fn after_code(r: Record, reader: Reader, c: u8) -> Record
     let next = heard.page;
     if pages::feeds(c) {
         let line = page.line;
-        crate::print_line(line, r.number);
+        crate::print_line(rt, line, r.number);
         return Record {
             reader,
             page: next,
-            number: std::num::wrapping_add_u64(r.number, 1),
+            number: r.number.wrapping_add(1),
             goes: true,
         };
     }
@@ -62,21 +62,21 @@ fn after_code(r: Record, reader: Reader, c: u8) -> Record
 }
 
 // The record after a word, if one was read; a bad one is shown, and ends it.
-fn after_item(r: Record, reader: Reader, item: Item) -> Record
+fn after_item(rt: &impl Print, r: Record, reader: Reader, item: Item) -> Record
     ensures { result ≡ after_item r reader item }
 {
     match item {
         Item::Nothing => read_to(r, reader, true),
-        Item::Code(c) => after_code(r, reader, c),
+        Item::Code(c) => after_code(rt, r, reader, c),
         Item::Bad => {
-            crate::print_bad_word(reader);
+            crate::print_bad_word(rt, reader);
             read_to(r, reader, false)
         }
     }
 }
 
 // The record after a byte, if it goes on.
-fn after_byte(r: Record, b: u8) -> Record
+fn after_byte(rt: &impl Print, r: Record, b: u8) -> Record
     ensures { result ≡ after_byte r b }
 {
     if !r.goes {
@@ -86,29 +86,29 @@ fn after_byte(r: Record, b: u8) -> Record
     let read = words::read_byte(reader, b);
     let next = read.reader;
     let item = read.item;
-    after_item(r, next, item)
+    after_item(rt, r, next, item)
 }
 
 // The record after some bytes.
-pub fn after_bytes(first: Record, s: &[u8]) -> Record
+pub fn after_bytes(rt: &impl Print, first: Record, s: &[u8]) -> Record
     ensures { result ≡ after_bytes first s.now }
 {
     let mut r = first;
     let mut i = 0;
     while i < s.len() {
-        r = after_byte(r, s[i]);
+        r = after_byte(rt, r, s[i]);
         i += 1;
     }
     r
 }
 
 // The record at the end of its bytes, which ends its last word.
-pub fn after_last(r: Record) -> Record
+pub fn after_last(rt: &impl Print, r: Record) -> Record
     ensures { result ≡ after_last r }
 {
     let reader = r.reader;
     let read = words::finish(reader);
     let next = read.reader;
     let item = read.item;
-    after_item(r, next, item)
+    after_item(rt, r, next, item)
 }
