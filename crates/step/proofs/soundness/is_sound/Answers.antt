@@ -9,7 +9,6 @@ use Rattle.step.proofs.soundness.is_sound.Goals as goal
 pub returns : goal.returns
 returns c =
     let s = c.args.s in
-    let g = c.well_formed.0.1.1.1.1.1.1.1.0 in
     let n : length s.reader.values ≡ 11 = search rules in
     let a = sound_settings s.settings in
     let b = sound_connection s.connection in
