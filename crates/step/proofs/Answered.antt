@@ -1,7 +1,7 @@
 -- An answer made into the host buffer.
 -- Assumes nothing.
-use Prim.Native.Nat.{ℕ, suc, ◌+◌, ◌≤◌, ◌<◌}
-use mathlib.Core.Path.{◌≡◌, refl, sym, ◌∙◌}
+use Prim.Native.Nat.{ℕ}
+use mathlib.Core.Path.{◌≡◌, refl}
 use mathlib.Core.Bool.{Bool, true, false, cond}
 use mathlib.Core.List.{List}
 use native.Mathlib.Omega.{arith}
@@ -10,7 +10,7 @@ use lib.ListN.{length}
 use borrow.Author.Tests.{lt-ltb}
 use Rattle.message.specs.Message.{framed}
 use Rattle.message.specs.Made.{Made}
-use Rattle.step.specs.Names.{State, Took}
+use Rattle.step.specs.Names.{State}
 use Rattle.step.specs.Byte.{Puts}
 
 module _ (after : State) (ns old now : List ℕ) (made : ℕ) (m : Made ns old now made) where

@@ -2,7 +2,7 @@
 -- Assumes nothing.
 use Prim.Native.Nat.{ℕ}
 use mathlib.Core.Path.{◌≡◌, refl, sym}
-use mathlib.Core.Bool.{Bool, true, false, cond, and-true}
+use mathlib.Core.Bool.{and-true}
 use mathlib.Core.List.{List, []}
 use lib.Dec.{leb-zero}
 use lib.ListN.{length}

@@ -13,19 +13,18 @@ use Rattle.laws.proofs.Both.{both}
 use Rattle.laws.proofs.Either.{either_way}
 use Rattle.laws.specs.Written.{fronted, Filled}
 use Rattle.laws.proofs.Tail.{length_fronted}
-use Rattle.message.specs.Message.{digits, message}
+use Rattle.message.specs.Message.{digits}
 use Rattle.message.specs.Made.{Put}
 use Rattle.motor.specs.Motor.{hearing, hearing_all, is_on}
 use Rattle.sender.specs.Item.{or_else, wanted_of, wanted_text, spoken}
 use Rattle.command.specs.Read.{text_of}
 use Rattle.command.specs.declared.Verb.{Verb}
 use Rattle.command.specs.declared.Out.TheVariants as out
-use Rattle.step.specs.Names.{Calling, Settings, Route, Dropped, ToPrinter, ToHost, ToTu, Out, One, Two, Finished, Wanted, Motor, State, Host, Heard}
+use Rattle.step.specs.Names.{Calling, Settings, Route, Dropped, ToPrinter, ToHost, ToTu, Out, One, Two, Finished, Wanted, Motor, State, Host}
 use Rattle.step.specs.Route.{route}
 use Rattle.code.specs.declared.Conversion.{Conversion}
 use Rattle.code.specs.declared.Conversion.TheVariants.{Nothing, Free, Cased}
-use Rattle.step.specs.State.{with_motor, with_sender}
-use Rattle.step.specs.Hear.{listens, codes_asked, powered, change, changes, motor_after, told_of, tells, heard_both, Hears}
+use Rattle.step.specs.Hear.{listens, codes_asked, powered, change, changes, motor_after, told_of, heard_both, Hears}
 use Rattle.step.specs.Step.{sends, quiet, text, hosted}
 
 -- Nothing asked for is nothing heard.

@@ -1,5 +1,5 @@
 -- What putting one byte's output into the free parts of the lent buffers gives.
-use Rattle.std.specs.Prelude.{ℕ, ◌≡◌, Bool, true, false, cond, ◌&&◌, List, [], leb, length}
+use Rattle.std.specs.Prelude.{ℕ, ◌≡◌, Bool, true, false, cond, ◌&&◌, List, leb, length}
 use Rattle.laws.specs.Written.{fronted}
 use Rattle.step.specs.Names.{State, Stream, Host, Line, Tu, Took, Taken}
 use Rattle.step.specs.Step.{Step}

@@ -1,11 +1,11 @@
 -- The state: a fresh box, what is sound, and its parts set one by one.
-use Rattle.std.specs.Prelude.{Bool, true, false, cond, ◌&&◌, eqb, length}
+use Rattle.std.specs.Prelude.{Bool, cond, ◌&&◌, eqb, length}
 use Rattle.settings.specs.Table.{factory, factory_calling, sound_settings, sound_calling, sound_connection}
 use Rattle.settings.specs.Command.{link}
 use Rattle.command.specs.Read.{idle, sound_stage}
 use Rattle.sender.specs.Item.{fresh}
 use Rattle.motor.specs.Motor.{resting, sound_motor}
-use Rattle.step.specs.Names.{Case, Letters, Reader, Settings, Connection, Stored, Sender, Motor, State}
+use Rattle.step.specs.Names.{Case, Letters, Reader, Stored, Sender, Motor, State}
 
 -- factory settings, mode 11, nothing held, the motor off
 abbrev pub fresh_box : State

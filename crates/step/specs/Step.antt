@@ -1,5 +1,5 @@
 -- What one byte of each stream does: the state after it, and what goes to the line, to the host and to the TU.
-use Rattle.std.specs.Prelude.{ℕ, Bool, true, false, cond, List, [], ◌∷◌, take}
+use Rattle.std.specs.Prelude.{ℕ, Bool, true, cond, List, [], ◌∷◌, take}
 use Rattle.code.specs.Rows.{row_at}
 use Rattle.code.specs.Kinds.{kind_of}
 use Rattle.message.specs.Message.{framed}
@@ -8,7 +8,7 @@ use Rattle.settings.specs.Command.{commanded}
 use Rattle.settings.specs.Options.{reports}
 use Rattle.sender.specs.Reading.{read_case}
 use Rattle.sender.specs.Item.{items, after_items, wanted, wanted_text}
-use Rattle.step.specs.Names.{Case, Kind, Still, Space, Return, Shift, Char, Reader, Out, Nothing, One, Two, Finished, Route, Dropped, ToPrinter, ToHost, ToTu, Settings, Outcome, Wanted, State, Stream, Host, Line, Tu}
+use Rattle.step.specs.Names.{Case, Kind, Still, Space, Return, Shift, Char, Out, Nothing, One, Two, Finished, Route, Dropped, ToPrinter, ToHost, ToTu, Settings, Outcome, Wanted, State, Stream, Host, Line, Tu}
 use Rattle.step.specs.Route.{route}
 use Rattle.step.specs.State.{with_reader, with_sender, with_reading, with_incoming, with_motor, with_stored}
 use Rattle.step.specs.Hear.{motor_after, told_of}

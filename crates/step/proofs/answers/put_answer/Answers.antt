@@ -2,7 +2,6 @@
 use Rattle.settings.proofs.Sent.{answers_short}
 use Rattle.settings.proofs.Written.{commanded_lasts}
 use Rattle.step.proofs.Answered.{made_puts}
-use borrow.Author.Rules.{rules}
 use Rattle.step.proofs.answers.put_answer.Goals as goal
 
 pub with_stored-next-requires : goal.with_stored-next-requires

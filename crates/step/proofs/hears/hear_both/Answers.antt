@@ -1,5 +1,4 @@
 -- `step::hears::hear_both` meets its contract.
-use borrow.Author.Rules.{rules}
 use Rattle.step.proofs.hears.hear_both.Goals as goal
 
 pub returns : goal.returns

@@ -1,6 +1,5 @@
 -- `step::hears::hear_code` meets its contract: a code is one item.
 use mathlib.Core.Path.{sym, ◌∙◌}
-use borrow.Author.Rules.{rules}
 use Rattle.code.specs.declared.Conversion.TheVariants.{Nothing, Cased}
 use Rattle.step.proofs.Hearing.{heard_both_law}
 use Rattle.step.proofs.hears.hear_code.Goals as goal

@@ -1,5 +1,4 @@
 -- `step::hears::hear_item` meets its contract: each conversion has its case.
-use borrow.Author.Rules.{rules}
 use Rattle.step.proofs.hears.hear_item.Goals as goal
 
 pub returns-in-Free : goal.returns-in-Free

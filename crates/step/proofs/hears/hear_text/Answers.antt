@@ -1,7 +1,6 @@
 -- `step::hears::hear_text` meets its contract: two bytes at most are two items at most.
 use mathlib.Core.Path.{sym, ◌∙◌, subst}
 use mathlib.Core.List.{List, ◌++◌}
-use borrow.Author.Rules.{rules}
 use Rattle.sender.specs.Item.{wanted_of}
 use Rattle.step.specs.Names.{Wanted}
 use Rattle.step.specs.Hear.{Hears}

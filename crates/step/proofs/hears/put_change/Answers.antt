@@ -1,8 +1,6 @@
 -- `step::hears::put_change` meets its contract: the message is laid out where there is a change.
 use native.Mathlib.Omega.{arith}
-use native.Mathlib.Nat.{zero-add}
 use borrow.Author.Tests.{ne_eqb}
-use borrow.Author.Rules.{rules}
 use Rattle.laws.proofs.Filled.{filled_none}
 use Rattle.step.proofs.Hearing.{change_none, change_long, laid_change}
 use Rattle.step.proofs.hears.put_change.Goals as goal

@@ -1,6 +1,5 @@
 -- `step::hears::put_told` meets its contract: the second change stands behind the first.
 use native.Mathlib.Omega.{arith}
-use borrow.Author.Rules.{rules}
 use lib.ListN.{length-append}
 use Rattle.laws.proofs.Filled.{free_length, filled_on}
 use Rattle.step.specs.Hear.{change}

@@ -1,6 +1,5 @@
 -- `step::hears::speak` meets its contract: where the byte has no code it is the stand-in's conversion.
 use mathlib.Core.Path.{sym, ◌∙◌}
-use borrow.Author.Rules.{rules}
 use borrow.Author.Tests.{eq-eqb, ne_eqb}
 use Rattle.code.specs.Convert.{conversion}
 use Rattle.sender.specs.Item.{standing}

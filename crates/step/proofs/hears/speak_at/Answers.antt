@@ -1,5 +1,4 @@
 -- `step::hears::speak_at` meets its contract.
-use borrow.Author.Rules.{rules}
 use borrow.Author.Tests.{lt-ltb, le-ltb}
 use Rattle.step.proofs.hears.speak_at.Goals as goal
 

@@ -9,7 +9,6 @@ use Rattle.step.specs.State.{with_reader}
 use Rattle.step.proofs.Bytes.{offers_second}
 use Rattle.step.proofs.Ways.{host_as}
 use Rattle.step.proofs.Hearing.{hosted_said}
-use borrow.Author.Rules.{rules}
 use Rattle.step.proofs.host.put_read.Goals as goal
 
 pub put_answer-requires : goal.put_answer-requires

@@ -1,6 +1,5 @@
 -- `step::line::put_line` meets its contract: each route has its case of `lined`.
 use mathlib.Core.Path.{refl, sym, ◌∙◌}
-use borrow.Author.Rules.{rules}
 use Rattle.step.specs.Names.{Line}
 use Rattle.step.specs.Step.{quiet}
 use Rattle.step.proofs.Bytes.{puts_none, offers_first, offers_second}

@@ -1,6 +1,5 @@
 -- `step::line::put_read` meets its contract: the test is whether the code gives the host a byte.
 use Rattle.step.proofs.Bytes.{puts_none}
-use borrow.Author.Rules.{rules}
 use Rattle.step.proofs.line.put_read.Goals as goal
 
 pub returns-then-is_read : goal.returns-then-is_read

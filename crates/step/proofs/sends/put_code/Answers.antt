@@ -1,7 +1,6 @@
 -- `step::sends::put_code` meets its contract: the codes made are those of the code, and the motor hears it.
 use mathlib.Core.Path.{refl}
 use native.Mathlib.Omega.{arith}
-use borrow.Author.Rules.{rules}
 use Rattle.step.proofs.Sent.{code_put}
 use Rattle.step.proofs.sends.put_code.Goals as goal
 

@@ -1,7 +1,6 @@
 -- `step::sends::put_items` meets its contract: the codes made are those of the text, and the motor hears it.
 use mathlib.Core.Path.{refl}
 use native.Mathlib.Omega.{arith}
-use borrow.Author.Rules.{rules}
 use Rattle.step.proofs.Sent.{text_put}
 use Rattle.step.proofs.sends.put_items.Goals as goal
 

@@ -1,6 +1,5 @@
 -- `step::sends::put_tu` meets its contract: each route has its case of `tued`.
 use mathlib.Core.Path.{refl, sym, ◌∙◌}
-use borrow.Author.Rules.{rules}
 use Rattle.step.specs.Names.{Tu}
 use Rattle.step.specs.Step.{quiet}
 use Rattle.step.proofs.Bytes.{puts_none, offers_first}

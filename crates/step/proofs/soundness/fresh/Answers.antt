@@ -1,5 +1,4 @@
 -- `step::soundness::fresh` meets its contract.
-use borrow.Author.Rules.{rules}
 use Rattle.step.proofs.soundness.fresh.Goals as goal
 
 pub returns : goal.returns

@@ -1,5 +1,4 @@
 -- `step::states::with_stored` meets its contract: the tests are whether the motor forgets and whether a connection was written.
-use borrow.Author.Rules.{rules}
 use borrow.Author.Tests.{not-true, not-false}
 use Rattle.step.proofs.states.with_stored.Goals as goal
 
