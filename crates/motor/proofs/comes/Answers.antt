@@ -1,5 +1,4 @@
 -- `motor::comes` meets its contract: its two tests are the definition's.
-use borrow.Author.Rules.{rules}
 use Rattle.motor.specs.Motor.{comes}
 use Rattle.motor.proofs.comes.Goals as goal
 

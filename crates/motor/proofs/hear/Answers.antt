@@ -1,5 +1,4 @@
 -- `motor::hear` meets its contract: the code is heard, and the motor turned by all that is heard then.
-use borrow.Author.Rules.{rules}
 use Rattle.motor.specs.Motor.{hearing}
 use Rattle.motor.proofs.hear.Goals as goal
 

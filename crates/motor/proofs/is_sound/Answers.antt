@@ -1,5 +1,4 @@
 -- `motor::is_sound` meets its contract: its two tests are the definition's.
-use borrow.Author.Rules.{rules}
 use Rattle.motor.specs.Motor.{sound_motor}
 use Rattle.motor.proofs.is_sound.Goals as goal
 

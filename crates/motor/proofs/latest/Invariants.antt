@@ -1,9 +1,7 @@
 -- `motor::latest` meets its contract. The loop's invariant: what is left of the codes heard holds the last ones asked for.
 use Prim.Native.Nat.{◌-◌}
 use mathlib.Core.Path.{◌≡◌}
-use borrow.Author.Rules.{rules}
 use Rattle.motor.specs.Motor.{without, latest}
-use Rattle.motor.proofs.Walks.{all_heard, fewer_heard, last_heard}
 use Rattle.motor.proofs.latest.Given as goal
 
 abbrev pub invariant-loop-i : goal.invariant-loop-i

@@ -1,5 +1,4 @@
 -- `motor::matches` meets its contract: its two tests are the definition's.
-use borrow.Author.Rules.{rules}
 use Rattle.motor.specs.Motor.{matches}
 use Rattle.motor.proofs.matches.Goals as goal
 

@@ -1,7 +1,5 @@
 -- `motor::size` meets its contract. The loop's invariant: the codes counted and those left are the string's.
-use Prim.Native.Nat.{◌-◌}
-use borrow.Author.Rules.{rules}
-use Rattle.motor.proofs.Walks.{Counted, none_counted, one_counted, none_left, all_counted}
+use Rattle.motor.proofs.Walks.{none_counted, one_counted, none_left, all_counted}
 use Rattle.motor.proofs.size.Goals as goal
 
 pub loop-n-init : goal.loop-n-init

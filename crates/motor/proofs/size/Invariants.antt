@@ -1,7 +1,6 @@
 -- `motor::size` meets its contract. The loop's invariant: the codes counted and those left are the string's.
 use Prim.Native.Nat.{◌-◌}
-use borrow.Author.Rules.{rules}
-use Rattle.motor.proofs.Walks.{Counted, none_counted, one_counted, none_left, all_counted}
+use Rattle.motor.proofs.Walks.{Counted}
 use Rattle.motor.proofs.size.Given as goal
 
 abbrev pub invariant-loop-n : goal.invariant-loop-n

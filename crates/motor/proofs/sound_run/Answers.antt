@@ -1,5 +1,4 @@
 -- `motor::sound_run` meets its contract: a call is sound up to 8 codes ago.
-use borrow.Author.Rules.{rules}
 use Rattle.motor.proofs.sound_run.Goals as goal
 
 pub returns-in-Called : goal.returns-in-Called

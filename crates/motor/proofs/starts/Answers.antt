@@ -1,5 +1,4 @@
 -- `motor::starts` meets its contract: each case of the code is one of the definition.
-use borrow.Author.Rules.{rules}
 use borrow.Author.Tests.{eq-eqb, ne_eqb}
 use Rattle.motor.specs.Motor.{starts, signal}
 use Rattle.motor.proofs.starts.Goals as goal

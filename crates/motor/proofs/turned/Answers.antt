@@ -1,5 +1,4 @@
 -- `motor::turned` meets its contract: each case of the code is one of the definition.
-use borrow.Author.Rules.{rules}
 use Rattle.motor.proofs.turned.Goals as goal
 
 pub returns-in-On : goal.returns-in-On

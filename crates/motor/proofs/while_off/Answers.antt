@@ -1,5 +1,4 @@
 -- `motor::while_off` meets its contract: string 93 calls a motor that is off.
-use borrow.Author.Rules.{rules}
 use Rattle.motor.specs.Motor.{while_off, signal}
 use Rattle.motor.proofs.while_off.Goals as goal
 

@@ -1,5 +1,4 @@
 -- `motor::while_on` meets its contract: string 92 stops a motor that is on.
-use borrow.Author.Rules.{rules}
 use Rattle.motor.specs.Motor.{while_on, signal}
 use Rattle.motor.proofs.while_on.Goals as goal
 

@@ -1,5 +1,4 @@
 -- `sender::codes::is_case` meets its contract: a known case is compared with the wanted one.
-use borrow.Author.Rules.{rules}
 use Rattle.sender.proofs.codes.is_case.Goals as goal
 
 pub returns-in-Is : goal.returns-in-Is

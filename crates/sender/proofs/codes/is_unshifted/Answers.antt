@@ -3,7 +3,6 @@ use mathlib.Core.List.{[], ◌∷◌}
 use Rattle.sender.specs.Names.{Letters}
 use Rattle.sender.specs.Code.{is_case}
 use Rattle.sender.proofs.Shifted.{turned}
-use borrow.Author.Rules.{rules}
 use Rattle.sender.proofs.codes.is_unshifted.Goals as goal
 
 pub returns-then-on : goal.returns-then-on

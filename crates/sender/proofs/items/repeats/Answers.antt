@@ -1,5 +1,4 @@
 -- `sender::items::repeats` meets its contract: two shifts are compared by their cases.
-use borrow.Author.Rules.{rules}
 use Rattle.sender.proofs.items.repeats.Goals as goal
 
 pub returns-in-Shift-was : goal.returns-in-Shift-was

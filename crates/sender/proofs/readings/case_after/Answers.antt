@@ -1,5 +1,4 @@
 -- `sender::readings::case_after` meets its contract: each kind has its case of `case_after`.
-use borrow.Author.Rules.{rules}
 use Rattle.sender.proofs.readings.case_after.Goals as goal
 
 pub returns-in-Space : goal.returns-in-Space

@@ -1,5 +1,4 @@
 -- `sender::records::after_char` meets its contract: a code that is struck moves the carriage.
-use borrow.Author.Rules.{rules}
 use Rattle.sender.proofs.records.after_char.Goals as goal
 
 pub returns-then-strikes : goal.returns-then-strikes

@@ -1,5 +1,4 @@
 -- `sender::records::after_unshift` meets its contract: with the option on the case is letters.
-use borrow.Author.Rules.{rules}
 use Rattle.sender.proofs.records.after_unshift.Goals as goal
 
 pub returns-then-on : goal.returns-then-on

@@ -2,7 +2,6 @@
 use mathlib.Core.Path.{ap}
 use native.Mathlib.Omega.{arith}
 use Rattle.sender.specs.Names.{At}
-use borrow.Author.Rules.{rules}
 use Rattle.sender.proofs.records.next.Goals as goal
 
 pub returns-then-n-lt255 : goal.returns-then-n-lt255

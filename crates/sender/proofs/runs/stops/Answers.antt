@@ -1,5 +1,4 @@
 -- `sender::runs::stops` meets its contract: each way to stop has its case of `stops_at`.
-use borrow.Author.Rules.{rules}
 use Rattle.sender.proofs.runs.stops.Goals as goal
 
 pub returns-in-Byte : goal.returns-in-Byte

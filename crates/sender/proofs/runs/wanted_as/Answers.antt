@@ -1,5 +1,4 @@
 -- `sender::runs::wanted_as` meets its contract: each conversion has its case of `wanted_as`.
-use borrow.Author.Rules.{rules}
 use Rattle.sender.proofs.runs.wanted_as.Goals as goal
 
 pub returns-in-Nothing : goal.returns-in-Nothing

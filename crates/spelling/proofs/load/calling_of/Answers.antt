@@ -1,5 +1,4 @@
 -- `spelling::load::calling_of` meets its contract.
-use borrow.Author.Rules.{rules}
 use Rattle.spelling.proofs.load.calling_of.Goals as goal
 
 pub returns : goal.returns

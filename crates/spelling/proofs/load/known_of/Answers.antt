@@ -1,6 +1,5 @@
 -- `spelling::load::known_of` meets its contract.
 use borrow.Author.Tests.{eq-eqb, ne_eqb}
-use borrow.Author.Rules.{rules}
 use Rattle.spelling.proofs.load.known_of.Goals as goal
 
 pub returns-then-n-eq0 : goal.returns-then-n-eq0

@@ -1,6 +1,5 @@
 -- `spelling::load::last_of` meets its contract.
 use borrow.Author.Tests.{eq-eqb, ne_eqb}
-use borrow.Author.Rules.{rules}
 use Rattle.spelling.proofs.load.last_of.Goals as goal
 
 pub returns-then-n-eq0 : goal.returns-then-n-eq0

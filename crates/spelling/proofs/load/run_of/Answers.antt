@@ -1,6 +1,5 @@
 -- `spelling::load::run_of` meets its contract.
 use borrow.Author.Tests.{eq-eqb, ne_eqb}
-use borrow.Author.Rules.{rules}
 use Rattle.spelling.proofs.load.run_of.Goals as goal
 
 pub returns-then-on-eq1 : goal.returns-then-on-eq1

@@ -1,10 +1,8 @@
 -- `spelling::load::same` meets its contract: what was compared so far and the bytes that remain tell the whole.
-use Prim.Native.Nat.{◌≤◌, ◌<◌, ◌-◌}
+use Prim.Native.Nat.{◌≤◌, ◌<◌}
 use mathlib.Core.Path.{◌≡◌, refl, sym, ◌∙◌}
-use mathlib.Core.Bool.{◌&&◌}
 use native.Mathlib.Omega.{arith}
-use lib.ListN.{length, drop}
-use Rattle.laws.specs.Same.{same}
+use lib.ListN.{length}
 use Rattle.spelling.proofs.Same.{same_turn, same_end}
 use borrow.Author.Rules.{rules}
 use Rattle.spelling.proofs.load.same.Goals as goal

@@ -1,12 +1,9 @@
 -- `spelling::load::same` meets its contract: what was compared so far and the bytes that remain tell the whole.
-use Prim.Native.Nat.{◌≤◌, ◌<◌, ◌-◌}
-use mathlib.Core.Path.{◌≡◌, refl, sym, ◌∙◌}
+use Prim.Native.Nat.{◌≤◌, ◌-◌}
+use mathlib.Core.Path.{◌≡◌}
 use mathlib.Core.Bool.{◌&&◌}
-use native.Mathlib.Omega.{arith}
-use lib.ListN.{length, drop}
+use lib.ListN.{drop}
 use Rattle.laws.specs.Same.{same}
-use Rattle.spelling.proofs.Same.{same_turn, same_end}
-use borrow.Author.Rules.{rules}
 use Rattle.spelling.proofs.load.same.Given as goal
 
 abbrev pub invariant-loop-i : goal.invariant-loop-i

@@ -1,5 +1,4 @@
 -- `spelling::load::settings_of` meets its contract.
-use borrow.Author.Rules.{rules}
 use Rattle.spelling.proofs.load.settings_of.Goals as goal
 
 pub returns : goal.returns

@@ -1,6 +1,5 @@
 -- `spelling::load::stage_of` meets its contract.
 use borrow.Author.Tests.{ne_eqb}
-use borrow.Author.Rules.{rules}
 use Rattle.spelling.proofs.load.stage_of.Goals as goal
 
 pub returns-in-4 : goal.returns-in-4

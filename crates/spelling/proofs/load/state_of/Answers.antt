@@ -1,6 +1,5 @@
 -- `spelling::load::state_of` meets its contract: each field is read from its offset.
 use Rattle.spelling.specs.Spelling.{state_of}
-use borrow.Author.Rules.{rules}
 use Rattle.spelling.proofs.load.state_of.Goals as goal
 
 pub returns : goal.returns

@@ -1,5 +1,4 @@
 -- `spelling::save::column_bytes` meets its contract.
-use borrow.Author.Rules.{rules}
 use Rattle.spelling.proofs.save.column_bytes.Goals as goal
 
 pub returns-in-At : goal.returns-in-At

@@ -1,5 +1,4 @@
 -- `spelling::save::put_calling` meets its contract: the strings one after another.
-use borrow.Author.Rules.{rules}
 use Rattle.spelling.proofs.save.put_calling.Goals as goal
 
 pub returns : goal.returns

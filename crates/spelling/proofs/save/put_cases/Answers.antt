@@ -1,5 +1,4 @@
 -- `spelling::save::put_cases` meets its contract.
-use borrow.Author.Rules.{rules}
 use Rattle.spelling.proofs.save.put_cases.Goals as goal
 
 pub returns : goal.returns

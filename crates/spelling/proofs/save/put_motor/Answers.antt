@@ -4,7 +4,6 @@ use mathlib.Core.List.{List}
 use Prim.Native.Nat.{ℕ}
 use Rattle.spelling.specs.Spelling.{puts, heard_bytes}
 use Rattle.spelling.proofs.Parts.{two_run}
-use borrow.Author.Rules.{rules}
 use Rattle.spelling.proofs.save.put_motor.Goals as goal
 
 pub returns : goal.returns

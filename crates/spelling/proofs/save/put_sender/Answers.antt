@@ -4,7 +4,6 @@ use mathlib.Core.List.{List, [], ◌∷◌, ◌++◌}
 use Prim.Native.Nat.{ℕ}
 use Rattle.spelling.specs.Spelling.{puts, known_byte, last_byte}
 use Rattle.spelling.proofs.Parts.{two}
-use borrow.Author.Rules.{rules}
 use Rattle.spelling.proofs.save.put_sender.Goals as goal
 
 pub returns : goal.returns

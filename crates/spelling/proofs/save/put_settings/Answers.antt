@@ -1,5 +1,4 @@
 -- `spelling::save::put_settings` meets its contract.
-use borrow.Author.Rules.{rules}
 use Rattle.spelling.proofs.save.put_settings.Goals as goal
 
 pub returns : goal.returns

@@ -4,7 +4,6 @@ use mathlib.Core.List.{List}
 use Prim.Native.Nat.{ℕ}
 use Rattle.spelling.specs.Spelling.{puts}
 use Rattle.spelling.proofs.Parts.{four}
-use borrow.Author.Rules.{rules}
 use Rattle.spelling.proofs.save.put_stage.Goals as goal
 
 pub returns : goal.returns

@@ -1,5 +1,4 @@
 -- `spelling::save::run_bytes` meets its contract.
-use borrow.Author.Rules.{rules}
 use Rattle.spelling.proofs.save.run_bytes.Goals as goal
 
 pub returns-in-Called : goal.returns-in-Called

@@ -1,6 +1,5 @@
 -- `spelling::save::save` meets its contract: over 128 zeros, the parts make the spelling.
 use Rattle.spelling.proofs.Parts.{put_all}
-use borrow.Author.Rules.{rules}
 use Rattle.spelling.proofs.save.save.Goals as goal
 
 pub returns : goal.returns

@@ -1,6 +1,5 @@
 -- `spelling::save::stage_bytes` meets its contract: each stage has its case of `stage_bytes`.
 use Rattle.spelling.proofs.Parts.{as_bit}
-use borrow.Author.Rules.{rules}
 use Rattle.spelling.proofs.save.stage_bytes.Goals as goal
 
 pub returns-in-Lettered : goal.returns-in-Lettered

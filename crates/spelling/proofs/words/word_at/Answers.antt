@@ -1,7 +1,6 @@
 -- `spelling::words::word_at` meets its contract: each byte stands below those after it.
 use native.Mathlib.Numerals.{add-one, add-two, add-three, add-four, add_five, add_six, add_seven}
 use native.Mathlib.Omega.{arith}
-use borrow.Author.Rules.{rules}
 use Rattle.spelling.proofs.words.word_at.Goals as goal
 
 pub returns : goal.returns
