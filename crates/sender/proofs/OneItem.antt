@@ -1,7 +1,7 @@
 -- One item: the ending and the code, dropped or not.
 -- Assumes nothing.
 use Prim.Native.Nat.{ℕ, ◌+◌, ◌-◌, ◌≤◌}
-use mathlib.Core.Path.{◌≡◌, refl, sym, ap, ◌∙◌}
+use mathlib.Core.Path.{◌≡◌, refl, sym, ap}
 use mathlib.Core.Bool.{Bool, true, false, ◌&&◌}
 use mathlib.Core.List.{List, [], ◌∷◌, ◌++◌, append-nil}
 use native.Mathlib.Omega.{arith}
@@ -11,11 +11,11 @@ use Rattle.laws.specs.Written.{Filled}
 use Rattle.laws.proofs.Filled.{filled_none, filled_on}
 use Rattle.code.specs.Kinds.{kind_of, moves}
 use Rattle.settings.specs.Options.{filter}
-use Rattle.sender.specs.Names.{Kind, Settings, Record, Last, Wanted, Sender, Noted, Item}
+use Rattle.sender.specs.Names.{Kind, Settings, Record, Last, Wanted, Sender, Noted}
 use Rattle.sender.specs.Record.{notes}
-use Rattle.sender.specs.Code.{send_kind, send_as}
-use Rattle.sender.specs.Ending.{due, ending, ending_before}
-use Rattle.sender.specs.Item.{character, last_of, repeats, item, items, after_item, after_items}
+use Rattle.sender.specs.Code.{send_kind}
+use Rattle.sender.specs.Ending.{due, ending}
+use Rattle.sender.specs.Item.{character, last_of, repeats, items}
 use Rattle.sender.specs.After.{after}
 use Rattle.sender.specs.Run.{Notes, PutsItems}
 use Rattle.sender.proofs.Append.{notes_append}

@@ -1,5 +1,5 @@
 -- Items: a character asked for, under option 72; host text in mode 1, TU codes in mode 4.
-use Rattle.std.specs.Prelude.{ℕ, Bool, true, false, cond, ◌&&◌, List, [], ◌∷◌, ◌++◌, eqb}
+use Rattle.std.specs.Prelude.{ℕ, Bool, false, cond, ◌&&◌, List, [], ◌∷◌, ◌++◌, eqb}
 use Rattle.code.specs.Kinds.{kind_of}
 use Rattle.code.specs.Convert.{conversion}
 use Rattle.settings.specs.Options.{filter, stand_in}

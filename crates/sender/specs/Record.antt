@@ -2,7 +2,7 @@
 use Rattle.std.specs.Prelude.{ℕ, ◌+◌, min, Bool, true, false, List, [], ◌∷◌}
 use Rattle.code.specs.Kinds.{kind_of}
 use Rattle.settings.specs.Options.{onspace, onreturn}
-use Rattle.sender.specs.Names.{Case, Letters, Figures, Kind, Still, Space, Return, Shift, Char, Settings, Known, Is, Column, At, Record}
+use Rattle.sender.specs.Names.{Letters, Figures, Kind, Still, Space, Return, Shift, Char, Settings, Known, Is, Column, At, Record}
 use Rattle.sender.specs.Names.known
 use Rattle.sender.specs.Names.column
 

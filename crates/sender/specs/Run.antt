@@ -1,6 +1,6 @@
 -- Bytes that go out as codes, written straight into a buffer.
 use Rattle.std.specs.Prelude.{ℕ, suc, ◌-◌, ◌≡◌, Bool, true, false, cond, List, [], ◌∷◌, ◌++◌, eqb, leb, ltb, length}
-use Rattle.laws.specs.Written.{fronted, Filled}
+use Rattle.laws.specs.Written.{Filled}
 use Rattle.code.specs.Kinds.{kind_of}
 use Rattle.sender.specs.Names.{Case, Letters, Conversion, Nothing, Free, Cased, Settings, Record, Wanted, Sender, Asks, Text, Codes, Until, Never, Byte, Above, Noted, Item, Sent}
 use Rattle.sender.specs.Record.{notes}

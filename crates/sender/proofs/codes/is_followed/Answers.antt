@@ -1,5 +1,4 @@
 -- `sender::codes::is_followed` meets its contract: each kind has its case of `follow`.
-use borrow.Author.Rules.{rules}
 use Rattle.sender.proofs.codes.is_followed.Goals as goal
 
 pub returns-in-Space : goal.returns-in-Space

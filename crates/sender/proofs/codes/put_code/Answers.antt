@@ -1,6 +1,5 @@
 -- `sender::codes::put_code` meets its contract: a code that depends on case may be led, and any other followed.
 use Rattle.sender.proofs.Shifted.{not_char, unled}
-use borrow.Author.Rules.{rules}
 use Rattle.sender.proofs.codes.put_code.Goals as goal
 
 pub put_led-requires : goal.put_led-requires

@@ -1,16 +1,10 @@
 -- `sender::codes::put_ending` meets its contract. The invariant: the codes sent so far stand before those left in the word.
-use Prim.Native.Nat.{◌≤◌, ◌-◌, ◌/◌, ◌%◌}
-use mathlib.Core.Path.{◌≡◌}
-use mathlib.Core.List.{◌∷◌}
-use native.Mathlib.Omega.{arith}
+use Prim.Native.Nat.{◌-◌, ◌/◌, ◌%◌}
 use lib.Dec.{lit≤}
-use lib.ListN.{length}
 use Rattle.laws.proofs.Filled.{free_length}
 use Rattle.word.specs.Word.{digits_by, unpacked}
 use Rattle.word.proofs.Words.{digits_none, digits_more}
-use Rattle.sender.specs.Ending.{ending_of, until_zero}
-use Rattle.sender.proofs.Endings.{Ending, ending_start, at_zero, at_end, ending_over, ending_room, ending_turn}
-use borrow.Author.Rules.{rules}
+use Rattle.sender.proofs.Endings.{ending_start, at_zero, at_end, ending_over, ending_room, ending_turn}
 use Rattle.sender.proofs.codes.put_ending.Goals as goal
 
 pub loop-left-init : goal.loop-left-init

@@ -1,16 +1,9 @@
 -- `sender::codes::put_ending` meets its contract. The invariant: the codes sent so far stand before those left in the word.
-use Prim.Native.Nat.{◌≤◌, ◌-◌, ◌/◌, ◌%◌}
-use mathlib.Core.Path.{◌≡◌}
-use mathlib.Core.List.{◌∷◌}
-use native.Mathlib.Omega.{arith}
-use lib.Dec.{lit≤}
+use Prim.Native.Nat.{◌≤◌}
 use lib.ListN.{length}
-use Rattle.laws.proofs.Filled.{free_length}
 use Rattle.word.specs.Word.{digits_by, unpacked}
-use Rattle.word.proofs.Words.{digits_none, digits_more}
 use Rattle.sender.specs.Ending.{ending_of, until_zero}
-use Rattle.sender.proofs.Endings.{Ending, ending_start, at_zero, at_end, ending_over, ending_room, ending_turn}
-use borrow.Author.Rules.{rules}
+use Rattle.sender.proofs.Endings.{Ending}
 use Rattle.sender.proofs.codes.put_ending.Given as goal
 
 abbrev pub invariant-loop-left : goal.invariant-loop-left

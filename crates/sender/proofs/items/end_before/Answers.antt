@@ -3,7 +3,6 @@ use mathlib.Core.Bool.{◌&&◌}
 use Rattle.settings.specs.Options.{ending_codes}
 use Rattle.sender.specs.Ending.{due}
 use Rattle.sender.proofs.OneItem.{no_ending}
-use borrow.Author.Rules.{rules}
 use Rattle.sender.proofs.items.end_before.Goals as goal
 
 pub put_ending-requires : goal.put_ending-requires

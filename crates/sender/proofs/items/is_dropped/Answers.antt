@@ -1,5 +1,4 @@
 -- `sender::items::is_dropped` meets its contract: the two tests are those of the definition.
-use borrow.Author.Rules.{rules}
 use Rattle.sender.proofs.items.is_dropped.Goals as goal
 
 pub returns-then-repeats : goal.returns-then-repeats

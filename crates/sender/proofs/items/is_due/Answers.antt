@@ -1,5 +1,4 @@
 -- `sender::items::is_due` meets its contract: each column has its case of `due`.
-use borrow.Author.Rules.{rules}
 use Rattle.sender.proofs.items.is_due.Goals as goal
 
 pub returns-then-endings : goal.returns-then-endings

@@ -1,5 +1,4 @@
 -- `sender::items::is_ended` meets its contract: a code that does not move the carriage has no ending before it.
-use borrow.Author.Rules.{rules}
 use Rattle.sender.proofs.items.is_ended.Goals as goal
 
 pub returns : goal.returns

@@ -1,5 +1,4 @@
 -- `sender::items::put_character` meets its contract: it goes by whether the code depends on case.
-use borrow.Author.Rules.{rules}
 use Rattle.sender.proofs.Shifted.{not_char}
 use Rattle.sender.proofs.items.put_character.Goals as goal
 

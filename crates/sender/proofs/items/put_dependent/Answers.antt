@@ -3,7 +3,6 @@ use native.Mathlib.Omega.{arith}
 use Rattle.laws.proofs.Filled.{free_length}
 use Rattle.sender.specs.Names.{Char}
 use Rattle.sender.proofs.OneItem.{ending_room, character_room, character_put}
-use borrow.Author.Rules.{rules}
 use Rattle.sender.proofs.items.put_dependent.Goals as goal
 
 pub end_before-ended-requires : goal.end_before-ended-requires

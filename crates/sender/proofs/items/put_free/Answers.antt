@@ -3,7 +3,6 @@ use native.Mathlib.Omega.{arith}
 use Rattle.laws.proofs.Filled.{free_length}
 use Rattle.sender.proofs.OneItem.{ending_room, character_room, character_put}
 use Rattle.sender.proofs.Shifted.{unled}
-use borrow.Author.Rules.{rules}
 use Rattle.sender.proofs.items.put_free.Goals as goal
 
 pub end_before_free-ended-requires : goal.end_before_free-ended-requires

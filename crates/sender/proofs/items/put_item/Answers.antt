@@ -1,6 +1,5 @@
 -- `sender::items::put_item` meets its contract: a dropped item is no code, any other its character.
 use Rattle.sender.proofs.OneItem.{item_dropped, item_room, item_sent}
-use borrow.Author.Rules.{rules}
 use Rattle.sender.proofs.items.put_item.Goals as goal
 
 pub returns-then-is_dropped : goal.returns-then-is_dropped

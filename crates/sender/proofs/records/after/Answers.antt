@@ -1,5 +1,4 @@
 -- `sender::records::after` meets its contract: each kind has its case of `after`.
-use borrow.Author.Rules.{rules}
 use Rattle.sender.proofs.records.after.Goals as goal
 
 pub returns-in-Still : goal.returns-in-Still

@@ -1,5 +1,4 @@
 -- `sender::runs::convert_as` meets its contract: text is spoken by the table lent.
-use borrow.Author.Rules.{rules}
 use Rattle.sender.proofs.runs.convert_as.Goals as goal
 
 pub returns-in-Text : goal.returns-in-Text

@@ -1,5 +1,4 @@
 -- `sender::runs::next_asks` meets its contract: text asks as text, and a code's kind has its case of `read_case`.
-use borrow.Author.Rules.{rules}
 use Rattle.sender.proofs.runs.next_asks.Goals as goal
 
 pub returns-in-Codes : goal.returns-in-Codes

@@ -2,7 +2,6 @@
 use mathlib.Core.Path.{refl}
 use Rattle.laws.proofs.Filled.{filled_none}
 use Rattle.sender.proofs.Sending.{one_wanted, none_wanted}
-use borrow.Author.Rules.{rules}
 use Rattle.sender.proofs.runs.put_asked.Goals as goal
 
 pub returns-then-is_none : goal.returns-then-is_none

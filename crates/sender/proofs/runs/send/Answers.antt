@@ -1,6 +1,5 @@
 -- `sender::runs::send` meets its contract. The invariant: the bytes taken and their codes stand before what the rest gives.
-use Prim.Native.Nat.{◌≤◌, ◌<◌, ◌+◌, ◌-◌}
-use mathlib.Core.Path.{◌≡◌, ◌∙◌, sym}
+use Prim.Native.Nat.{◌≤◌, ◌-◌}
 use native.Mathlib.Omega.{arith}
 use lib.ListN.{length, get_or}
 use borrow.Author.Tests.{leb-true, not-true, not-false}
@@ -8,8 +7,7 @@ use Rattle.laws.proofs.Filled.{free_length}
 use Rattle.sender.specs.Item.{converted}
 use Rattle.sender.specs.Run.{most}
 use Rattle.sender.proofs.Few.{byte_most}
-use Rattle.sender.proofs.Sending.{Sending, sending, all_sent, no_room, at_stop, sends_on}
-use borrow.Author.Rules.{rules}
+use Rattle.sender.proofs.Sending.{sending, all_sent, no_room, at_stop, sends_on}
 use Rattle.sender.proofs.runs.send.Goals as goal
 
 pub loop-taken-init : goal.loop-taken-init

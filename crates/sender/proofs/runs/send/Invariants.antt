@@ -1,15 +1,7 @@
 -- `sender::runs::send` meets its contract. The invariant: the bytes taken and their codes stand before what the rest gives.
-use Prim.Native.Nat.{◌≤◌, ◌<◌, ◌+◌, ◌-◌}
-use mathlib.Core.Path.{◌≡◌, ◌∙◌, sym}
-use native.Mathlib.Omega.{arith}
-use lib.ListN.{length, get_or}
-use borrow.Author.Tests.{leb-true, not-true, not-false}
-use Rattle.laws.proofs.Filled.{free_length}
-use Rattle.sender.specs.Item.{converted}
-use Rattle.sender.specs.Run.{most}
-use Rattle.sender.proofs.Few.{byte_most}
-use Rattle.sender.proofs.Sending.{Sending, sending, all_sent, no_room, at_stop, sends_on}
-use borrow.Author.Rules.{rules}
+use Prim.Native.Nat.{◌-◌}
+use lib.ListN.{length}
+use Rattle.sender.proofs.Sending.{Sending}
 use Rattle.sender.proofs.runs.send.Given as goal
 
 abbrev pub invariant-loop-taken : goal.invariant-loop-taken

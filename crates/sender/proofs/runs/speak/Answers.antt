@@ -1,5 +1,4 @@
 -- `sender::runs::speak` meets its contract: where the look_up gives nothing it is the stand-in's conversion.
-use borrow.Author.Rules.{rules}
 use mathlib.Core.Path.{sym, ◌∙◌}
 use Rattle.code.specs.Convert.{conversion}
 use Rattle.sender.specs.Item.{standing}

@@ -1,5 +1,4 @@
 -- `sender::runs::standing` meets its contract: 0 is none, and any other is looked up in the table lent.
-use borrow.Author.Rules.{rules}
 use borrow.Author.Tests.{eq-eqb, ne_eqb}
 use mathlib.Core.Path.{sym, ◌∙◌}
 use Rattle.sender.proofs.runs.standing.Goals as goal
