@@ -1,11 +1,11 @@
 -- `settings::faults::checksum` meets its contract. The loop's invariant: the total and the sum of those of the first n fields that stand from
 -- place `i` on make the whole sum, modulo 256.
 use Prim.Native.Nat.{ℕ, zero, suc, ◌%◌, ◌<◌, ◌+◌, ◌-◌}
-use mathlib.Core.Path.{◌≡◌, refl, sym, ◌∙◌}
+use mathlib.Core.Path.{◌≡◌, refl, ◌∙◌}
 use mathlib.Core.List.{List, [], ◌∷◌}
 use native.Mathlib.Omega.{arith}
 use native.Mathlib.Numerals.{add-one}
-use native.Mathlib.Nat.{mod-lt, mod-add-mod, mod-eq_of_lt, add_assoc, zero-add, add-zero, sub-zero, sub_self}
+use native.Mathlib.Nat.{mod-lt, mod-add-mod, add_assoc}
 use borrow.Author.Rules.{rules}
 use lib.ListN.{get_or, take, drop}
 use Rattle.settings.specs.Command.{sum}
@@ -25,18 +25,9 @@ turn n i fields total h =
     let e : n - i ≡ suc (n - (i + 1)) = omega arith in
     rw (e, first (n - (i + 1)) i fields, mod-add-mod, add_assoc, add-one)
 
-pub loop-i-init : goal.loop-i-init
-loop-i-init c = (search rules, (search rules, rw (zero-add, sub-zero)))
-
 pub loop-i-preserved : goal.loop-i-preserved
 loop-i-preserved c =
     let l = c.loop-i in
     let a = c.args in
     let h : l.i < a.n = omega arith in
     (mod-lt _ (search rules), (search rules, l.invariant.1.1 ∙ rw c.field_at-field.ensures (turn a.n l.i a.fields l.total h)))
-
-pub returns : goal.returns
-returns c =
-    let l = c.loop-i in
-    let e : l.i ≡ c.args.n = omega arith in
-    sym (l.invariant.1.1 ∙ rw (e, sub_self, add-zero) (mod-eq_of_lt l.invariant.0))

@@ -9,9 +9,3 @@ unfolding sound_stand_in stand_in
 returns-in-Write c =
     let a = c.args in
     λ k d. rw c.in-Write.is (c.is_stand_in.ensures ∙ ap is_stand_in (c.stored_stand_in.ensures k d a.r.number a.ps refl))
-
-pub returns-in-Read : goal.returns-in-Read
-returns-in-Read c = λ k d. rw c.in-Read.is
-
-pub returns-in-Other : goal.returns-in-Other
-returns-in-Other c = λ k d. rw c.in-Other.is

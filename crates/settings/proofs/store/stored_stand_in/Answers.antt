@@ -8,15 +8,6 @@ use lib.Seq.{get_or-set_same, get_or-set_other}
 use Rattle.settings.specs.Options.{stand_in}
 use Rattle.settings.proofs.store.stored_stand_in.Goals as goal
 
-pub returns-in-Version : goal.returns-in-Version
-returns-in-Version c = λ k d n ps e. rw c.in-Version.is c.stand_in-now.ensures
-
-pub returns-in-Linked : goal.returns-in-Linked
-returns-in-Linked c = λ k d n ps e. rw c.in-Linked.is c.stand_in-now.ensures
-
-pub returns-in-Unlinked : goal.returns-in-Unlinked
-returns-in-Unlinked c = λ k d n ps e. rw c.in-Unlinked.is c.stand_in-now.ensures
-
 pub returns-then-place-eq6 : goal.returns-then-place-eq6
 unfolding stand_in
 returns-then-place-eq6 c =
@@ -35,15 +26,6 @@ pub returns-in-String : goal.returns-in-String
 unfolding stand_in
 returns-in-String c = λ k d n ps e. rw c.in-String.is c.stand_in-now.ensures
 
-pub returns-in-Power : goal.returns-in-Power
-returns-in-Power c = λ k d n ps e. rw c.in-Power.is c.stand_in-now.ensures
-
-pub returns-in-Signal : goal.returns-in-Signal
-returns-in-Signal c = λ k d n ps e. rw c.in-Signal.is c.stand_in-now.ensures
-
 pub returns-in-Factory : goal.returns-in-Factory
 unfolding stand_in
 returns-in-Factory c = λ k d n ps e. rw c.in-Factory.is
-
-pub returns-in-Nowhere : goal.returns-in-Nowhere
-returns-in-Nowhere c = λ k d n ps e. rw c.in-Nowhere.is c.stand_in-now.ensures

