@@ -1,21 +1,21 @@
 -- A run of bytes that the command reader keeps stands before what the rest gives.
 -- Assumes nothing.
-use Prim.Native.Nat.{ℕ, suc, ◌+◌, ◌-◌, ◌≤◌, ◌<◌}
-use mathlib.Core.Path.{◌≡◌, refl, sym, ap, ◌∙◌}
+use Prim.Native.Nat.{ℕ, suc, ◌+◌}
+use mathlib.Core.Path.{◌≡◌, refl}
 use mathlib.Core.Bool.{Bool, true, false, cond, false≢true}
-use mathlib.Core.List.{List, [], ◌∷◌, ◌++◌}
+use mathlib.Core.List.{List, [], ◌∷◌}
 use native.Mathlib.Omega.{arith}
 use native.Mathlib.Numerals.{add-one}
 use native.Mathlib.Nat.{zero-add, sub-zero}
 use lib.Dec.{leb-zero}
-use lib.ListN.{length, drop, get_or}
+use lib.ListN.{drop}
 use Rattle.command.specs.declared.Running.{Running}
 use Rattle.command.specs.declared.Step.{Step as Read}
 use Rattle.command.specs.Read.{is_nothing, read}
 use Rattle.command.specs.Reads.{further, running}
-use Rattle.linebox.specs.Names.{Out, Nothing, One, Two, Finished, Reader, State, Stream, Host}
+use Rattle.linebox.specs.Names.{Out, Nothing, One, Two, Finished, State, Host}
 use Rattle.step.specs.State.{sound, with_reader}
-use Rattle.step.specs.Step.{Step, quiet, hosted, host_step}
+use Rattle.step.specs.Step.{quiet, hosted}
 use Rattle.linebox.specs.Call.{Done, before, taking}
 use Rattle.step.proofs.Stays.{sound_step}
 

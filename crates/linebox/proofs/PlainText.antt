@@ -1,27 +1,26 @@
 -- Text with nothing held, and TU codes, on a route to the printer are plain bytes.
 -- Assumes nothing.
-use Prim.Native.Nat.{ℕ, ◌+◌, ◌-◌, ◌≤◌}
+use Prim.Native.Nat.{ℕ}
 use mathlib.Core.Path.{◌≡◌, refl, sym, ap, ◌∙◌}
-use mathlib.Core.Bool.{Bool, true, false, ◌&&◌, false≢true}
-use mathlib.Core.List.{List, [], ◌∷◌, ◌++◌, append-nil}
+use mathlib.Core.Bool.{Bool, true, false, false≢true}
+use mathlib.Core.List.{List, [], ◌∷◌, append-nil}
 use native.Mathlib.Omega.{arith}
 use native.Mathlib.Nat.{zero-add, sub-zero}
 use lib.Dec.{eqb, leb}
-use Rattle.laws.specs.Written.{Filled}
 use Rattle.laws.proofs.Filled.{filled_none}
-use lib.ListN.{length, drop}
+use lib.ListN.{length}
 use Rattle.command.specs.declared.Stage.{Stage}
 use Rattle.command.specs.declared.Stage.TheVariants as stage
-use Rattle.command.specs.Read.{read, read_at, afresh, at, idle}
+use Rattle.command.specs.Read.{read_at, at, idle}
 use Rattle.code.specs.Kinds.{kind_of}
-use Rattle.sender.specs.Item.{items, wanted, wanted_by, wanted_text}
+use Rattle.sender.specs.Item.{wanted, wanted_by, wanted_text}
 use Rattle.sender.specs.Reading.{read_case}
 use Rattle.sender.specs.Run.{asks_next, case_asked, stops_at, Run, most, run_of, SendsRun}
 use Rattle.sender.specs.declared.Sent.{Sent}
-use Rattle.linebox.specs.Names.{Case, Route, Dropped, ToPrinter, ToHost, ToTu, Settings, Sender, Asks, Text, Codes, Byte, Above, One, State, Stream, Host, Tu, Ran}
+use Rattle.linebox.specs.Names.{Route, Dropped, ToPrinter, ToHost, ToTu, Settings, Sender, Asks, Text, Codes, Byte, Above, One, State, Stream, Host, Tu}
 use Rattle.step.specs.State.{sound, with_reader, with_sender, with_incoming}
-use Rattle.step.specs.Step.{Step, sends, text, hosted, host_step, tued, tu_step, carried, step}
-use Rattle.linebox.specs.Call.{first_of, second_of, refuses, fits, Done, before, taking}
+use Rattle.step.specs.Step.{sends, text, host_step, tued, carried}
+use Rattle.linebox.specs.Call.{taking}
 use Rattle.linebox.specs.Plain.{is_text}
 use Rattle.step.specs.Route.{route, is_printer}
 use Rattle.step.specs.Hear.{listens}

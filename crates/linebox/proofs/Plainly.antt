@@ -1,9 +1,9 @@
 -- A run of plain bytes stands before what the rest gives: text in mode 1 with nothing held, TU codes in mode 4.
 -- Assumes nothing.
-use Prim.Native.Nat.{ℕ, suc, ◌+◌, ◌-◌, ◌≤◌}
-use mathlib.Core.Path.{◌≡◌, refl, sym, ap, ◌∙◌}
-use mathlib.Core.Bool.{Bool, true, false, cond, ◌&&◌, and-true}
-use mathlib.Core.List.{List, [], ◌∷◌, ◌++◌, append-nil, append_assoc}
+use Prim.Native.Nat.{ℕ, suc, ◌+◌, ◌-◌}
+use mathlib.Core.Path.{◌≡◌, refl, ◌∙◌}
+use mathlib.Core.Bool.{Bool, true, false, and-true}
+use mathlib.Core.List.{List, [], ◌∷◌, ◌++◌, append_assoc}
 use native.Mathlib.Omega.{arith}
 use native.Mathlib.Nat.{zero-add, sub-zero}
 use borrow.Author.Tests.{le-leb, leb-true}
@@ -13,8 +13,8 @@ use Rattle.sender.specs.Item.{items, after_items, converted, wanted_by}
 use Rattle.sender.specs.Run.{asks_next, stops_at, Run, most, run_of}
 use Rattle.sender.proofs.Few.{byte_most}
 use Rattle.linebox.specs.Names.{Settings, Sender, Asks, Until, State, Stream}
-use Rattle.step.specs.Step.{Step, step}
-use Rattle.linebox.specs.Call.{first_of, second_of, refuses, fits, Done, onward, before, taking}
+use Rattle.step.specs.Step.{step}
+use Rattle.linebox.specs.Call.{first_of, second_of, refuses, fits, Done, before, taking}
 
 -- a byte that is taken as its items go out, and writes to the first buffer alone
 pub record Plain (t : Stream) (o : Settings) (st : Sender → Asks → State) (x : Sender) (a : Asks) (b : ℕ) : Type 0 where

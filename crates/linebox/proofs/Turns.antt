@@ -3,17 +3,17 @@
 use Prim.Native.Nat.{ℕ, suc, ◌+◌, ◌-◌, ◌≤◌, ◌<◌}
 use mathlib.Core.Path.{◌≡◌, refl, sym, ap, ◌∙◌}
 use mathlib.Core.Bool.{Bool, true, false}
-use mathlib.Core.List.{List, [], ◌∷◌, ◌++◌, append-nil, append_assoc}
+use mathlib.Core.List.{List, [], ◌++◌, append-nil, append_assoc}
 use native.Mathlib.Omega.{arith}
 use native.Mathlib.Numerals.{add-one}
 use native.Mathlib.Nat.{zero-add, add-zero, sub-zero}
 use borrow.Rule.Slice.PartMut.{put_mid, mid_of}
 use borrow.Author.Tests.{leb-true}
 use lib.Dec.{leb}
-use lib.ListN.{length, get_or, take, drop, drop_of_length-le, length-append, length-drop}
+use lib.ListN.{length, get_or, take, drop, drop_of_length-le, length-drop}
 use lib.Seq.{drop-cons, drop-drop, get_or-drop}
-use Rattle.laws.specs.Written.{written, fronted, Filled}
-use Rattle.laws.proofs.Tail.{to_end, lent, fronted_more, length_fronted}
+use Rattle.laws.specs.Written.{Filled}
+use Rattle.laws.proofs.Tail.{to_end}
 use Rattle.linebox.specs.Names.{State, Stream, Host, Answer, NoRoom, Taken, Ran}
 use Rattle.step.specs.State.{sound, with_reader}
 use Rattle.step.specs.Step.{Step, hosted, step}
