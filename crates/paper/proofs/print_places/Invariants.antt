@@ -1,5 +1,5 @@
 -- `paper::print_places` is safe and ends. The invariant: the place is within the row.
-use Rattle.std.proofs.Common.{◌-◌, ◌≤◌, length, rules}
+use Rattle.std.proofs.Common.{◌-◌, ◌≤◌, length}
 use Rattle.paper.proofs.print_places.Given as goal
 
 abbrev pub invariant-loop-i : goal.invariant-loop-i

@@ -1,5 +1,4 @@
 -- `paper::take_all` is safe and ends. The measure is how many turns are left.
-use Rattle.std.proofs.Common.{rules}
 use Rattle.paper.proofs.take_all.Given as goal
 
 abbrev pub invariant-loop-turns : goal.invariant-loop-turns

@@ -1,5 +1,4 @@
 -- `paper::options::told` meets its contract: each setting is a case of `told`.
-use Rattle.std.proofs.Common.{rules}
 use Rattle.paper.proofs.options.told.Goals as goal
 
 pub returns-in-Stop : goal.returns-in-Stop

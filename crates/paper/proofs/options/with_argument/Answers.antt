@@ -1,5 +1,4 @@
 -- `paper::options::with_argument` meets its contract: the argument is read, and then told.
-use Rattle.std.proofs.Common.{rules}
 use Rattle.paper.proofs.options.with_argument.Goals as goal
 
 pub returns : goal.returns

@@ -1,5 +1,5 @@
 -- `paper::reading::after_byte` meets its contract: the byte is read, and the word that it ends is taken.
-use Rattle.std.proofs.Common.{◌≡◌, ℕ, Bool, true, cond, sym, ap, ◌∙◌, rules}
+use Rattle.std.proofs.Common.{◌≡◌, ℕ, Bool, true, cond, sym, ap, ◌∙◌}
 use borrow.Author.Tests.{not-true, not-false}
 use Rattle.words.specs.declared.Read.{Read}
 use Rattle.words.specs.Words.{read}

@@ -1,7 +1,6 @@
 -- `paper::reading::after_bytes` meets its contract. The invariant: what remains gives, from here, the record that all give.
-use Rattle.std.proofs.Common.{◌≡◌, ℕ, ◌+◌, ◌-◌, ◌<◌, ◌≤◌, List, length, get_or, drop, sym, refl, ap, ◌∙◌, add-one, arith, drop_of_length-le, drop-cons, rules}
-use Rattle.paper.specs.declared.reading.Record.{Record}
-use Rattle.paper.specs.Reading.{after_byte, after_bytes}
+use Rattle.std.proofs.Common.{◌≡◌, ◌-◌, ◌≤◌, length, drop}
+use Rattle.paper.specs.Reading.{after_bytes}
 use Rattle.paper.proofs.reading.after_bytes.Given as goal
 
 abbrev pub invariant-loop-i : goal.invariant-loop-i

@@ -1,5 +1,5 @@
 -- `paper::reading::after_code` meets its contract: the test picks the number of the line.
-use Rattle.std.proofs.Common.{◌≡◌, true, false, sym, ◌∙◌, rules}
+use Rattle.std.proofs.Common.{◌≡◌, true, false, sym, ◌∙◌}
 use Rattle.judgement.specs.Page.{feeds}
 use Rattle.paper.proofs.reading.after_code.Goals as goal
 

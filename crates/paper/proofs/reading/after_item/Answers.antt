@@ -1,5 +1,4 @@
 -- `paper::reading::after_item` meets its contract: each word is a case of `after_item`.
-use Rattle.std.proofs.Common.{rules}
 use Rattle.paper.proofs.reading.after_item.Goals as goal
 
 pub returns-in-Nothing : goal.returns-in-Nothing

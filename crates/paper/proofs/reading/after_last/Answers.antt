@@ -1,5 +1,5 @@
 -- `paper::reading::after_last` meets its contract: the last word is read, and then taken.
-use Rattle.std.proofs.Common.{ap, ◌∙◌, rules}
+use Rattle.std.proofs.Common.{ap, ◌∙◌}
 use Rattle.words.specs.declared.Read.{Read}
 use Rattle.paper.specs.Reading.{after_item}
 use Rattle.paper.proofs.reading.after_last.Goals as goal

@@ -1,5 +1,5 @@
 -- `paper::show::after_place` meets its contract: each test picks its case of `after_place`.
-use Rattle.std.proofs.Common.{rules, eq-eqb, ne_eqb}
+use Rattle.std.proofs.Common.{eq-eqb, ne_eqb}
 use Rattle.paper.proofs.show.after_place.Goals as goal
 
 pub returns-then-stand-v : goal.returns-then-stand-v

@@ -1,5 +1,5 @@
 -- `paper::show::row_size` meets its contract. The invariant: what remains gives, from here, the size that all gives.
-use Rattle.std.proofs.Common.{◌≡◌, ℕ, ◌+◌, ◌-◌, ◌<◌, ◌≤◌, cond, eqb, List, length, get_or, drop, sym, refl, ap, ◌∙◌, add-one, arith, drop_of_length-le, drop-cons, rules, eq-eqb, ne_eqb}
+use Rattle.std.proofs.Common.{◌≡◌, ℕ, ◌+◌, ◌<◌, ◌≤◌, cond, eqb, List, length, get_or, drop, sym, refl, ap, ◌∙◌, add-one, arith, drop_of_length-le, drop-cons, rules, eq-eqb, ne_eqb}
 use Rattle.paper.specs.Show.{size_from}
 use Rattle.paper.proofs.show.row_size.Goals as goal
 use Rattle.paper.proofs.show.row_size.Goals.{then-row-i-ne0, else-row-i-ne0}
@@ -28,8 +28,8 @@ loop-i-preserved c =
     let l = c.loop-i in
     let a = c.args in
     elim c.if-row-i-ne0.branch [
-        then-row-i-ne0 w ↦ (omega arith, omega arith, l.invariant.2 ∙ taken l.n a.row.now l.i c.if-row-i-ne0.n c.loop-i-test.true w.if-row-i-ne0.true w.n-is)
-        | else-row-i-ne0 w ↦ (omega arith, omega arith, l.invariant.2 ∙ passed l.n a.row.now l.i c.if-row-i-ne0.n c.loop-i-test.true w.if-row-i-ne0.false w.n-is)
+      | then-row-i-ne0 w ↦ (omega arith, omega arith, l.invariant.2 ∙ taken l.n a.row.now l.i c.if-row-i-ne0.n c.loop-i-test.true w.if-row-i-ne0.true w.n-is)
+      | else-row-i-ne0 w ↦ (omega arith, omega arith, l.invariant.2 ∙ passed l.n a.row.now l.i c.if-row-i-ne0.n c.loop-i-test.true w.if-row-i-ne0.false w.n-is)
     ]
 
 pub returns : goal.returns

@@ -1,5 +1,5 @@
 -- `paper::show::row_size` meets its contract. The invariant: what remains gives, from here, the size that all gives.
-use Rattle.std.proofs.Common.{◌≡◌, ℕ, ◌+◌, ◌-◌, ◌<◌, ◌≤◌, cond, eqb, List, length, get_or, drop, sym, refl, ap, ◌∙◌, ⊎_elim, add-one, arith, drop_of_length-le, drop-cons, rules, eq-eqb, ne_eqb}
+use Rattle.std.proofs.Common.{◌≡◌, ◌-◌, ◌≤◌, length, drop}
 use Rattle.paper.specs.Show.{size_from}
 use Rattle.paper.proofs.show.row_size.Given as goal
 

@@ -1,5 +1,5 @@
 -- `paper::show::space` meets its contract. The invariant: the outcome is what is passed, and what remains with spaces in it.
-use Rattle.std.proofs.Common.{◌≡◌, ℕ, zero, suc, ◌+◌, ◌-◌, ◌<◌, ◌≤◌, List, [], ◌∷◌, ◌++◌, length, get_or, take, drop, set, sym, refl, ap, ◌∙◌, append-nil, add-one, arith, length-set, drop_of_length-le, take_all, rules}
+use Rattle.std.proofs.Common.{◌≡◌, ℕ, zero, suc, ◌+◌, ◌<◌, ◌≤◌, List, [], ◌∷◌, ◌++◌, length, get_or, take, drop, set, sym, refl, ap, ◌∙◌, append-nil, add-one, arith, length-set, drop_of_length-le, take_all, rules}
 use Rattle.paper.specs.Show.{inked, spaced}
 use Rattle.paper.proofs.show.space.Goals as goal
 
