@@ -8,17 +8,17 @@ use Rattle.board.proofs.linebox_host.Goals as goal
 
 pub returns-then-not-x : goal.returns-then-not-x
 returns-then-not-x c =
-    let a = o.before.before.before.before.before.args in
+    let a = c.args in
     refused Host a.state.now a.input.now _ _ a.line.now a.host.now (sym c.open_state-x.ensures.0 ∙ not-true _ c.if-not-x.true)
 
 pub take_host-c-requires : goal.take_host-c-requires
 take_host-c-requires c =
     let e = c.open_state-x.ensures in
-    rw e.1 (the_sound x.before.before.before.before.before.before.before.args.state.now (sym e.0 ∙ not-false _ c.if-not-x.false))
+    rw e.1 (the_sound c.args.state.now (sym e.0 ∙ not-false _ c.if-not-x.false))
 
 pub returns : goal.returns
 returns c =
     let e = c.open_state-x.ensures in
-    let a = x.before.before.before.before.before.before.before.args in
-    rw (c.save.ensures, c.counts.ensures, c.number_of_lem.ensures)
+    let a = c.args in
+    rw (c.save.ensures, c.counts.ensures, c.number_of.ensures)
     (boarded Host a.state.now a.input.now _ _ a.line.now a.host.now _ _ c.take_host-c.result (sym e.0 ∙ not-false _ c.if-not-x.false) (rw e.1 at c.take_host-c.ensures))
