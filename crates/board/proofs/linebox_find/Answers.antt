@@ -1,7 +1,6 @@
 -- `board::linebox_find` meets its contract.
 use native.Mathlib.Omega.{arith}
 use Rattle.board.proofs.Found.{nowhere, somewhere}
-use borrow.Author.Rules.{rules}
 use Rattle.board.proofs.linebox_find.Goals as goal
 
 pub returns-then-p-eq0 : goal.returns-then-p-eq0

@@ -1,6 +1,5 @@
 -- `board::linebox_fresh` meets its contract.
 use mathlib.Core.Path.{refl}
-use borrow.Author.Rules.{rules}
 use Rattle.board.proofs.linebox_fresh.Goals as goal
 
 pub returns : goal.returns

@@ -3,7 +3,6 @@ use mathlib.Core.Path.{sym, ◌∙◌}
 use borrow.Author.Tests.{not-true, not-false}
 use Rattle.board.specs.Names.{Line}
 use Rattle.board.proofs.Asked.{the_sound, refused, boarded}
-use borrow.Author.Rules.{rules}
 use Rattle.board.proofs.linebox_line.Goals as goal
 
 pub returns-then-not-x : goal.returns-then-not-x

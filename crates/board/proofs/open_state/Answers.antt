@@ -1,6 +1,5 @@
 -- `board::open_state` meets its contract: the bytes are compared with the spelling of the state that they read as.
 use Rattle.spelling.specs.Spelling.{spells}
-use borrow.Author.Rules.{rules}
 use Rattle.board.proofs.open_state.Goals as goal
 
 pub returns : goal.returns
