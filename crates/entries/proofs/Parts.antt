@@ -8,12 +8,7 @@ use native.Mathlib.Numerals.{add-one}
 use lib.ListN.{length, take, drop, drop_of_length-le}
 use lib.Seq.{take-length}
 use Rattle.laws.proofs.Tail.{from_start, to_end}
-use Rattle.bytes.specs.Bytes.{index_of, slice}
-
--- the first bar of the whole text
-pub bar : (s : List ℕ) (r : ℕ) → r ≡ 0 + index_of 124 (slice 0 (length s) s) → r ≡ index_of 124 s
-unfolding slice
-bar s r e = let z : 0 + index_of 124 s ≡ index_of 124 s = omega arith in (rw (take-length s) at e) ∙ z
+use Rattle.entries.specs.Text.{index_of}
 
 -- what stands before the bar, and after it
 pub before : (s : List ℕ) (r : ℕ) → r ≡ index_of 124 s → take (r - 0) s ≡ take (index_of 124 s) s

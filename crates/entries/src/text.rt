@@ -1,7 +1,7 @@
 // The text of a vector: fields with a bar after each, bytes with escapes, and numbers.
 ghost use Rattle.std.specs.Prelude.{◌≡◌, ◌+◌, ◌*◌, ◌%◌, ◌≤◌, ◌<◌, length, get_or, take};
 ghost use Rattle.laws.specs.Written.{fronted};
-ghost use Rattle.entries.specs.Text.{before_bar, after_bar, digit, hex, escaped, decimal, first_piece, decoded};
+ghost use Rattle.entries.specs.Text.{index_of, before_bar, after_bar, digit, hex, escaped, decimal, first_piece, decoded};
 
 // How bytes are spelled: each as itself or by an escape, or each in decimal after a space.
 #[derive(Clone, Copy)]
@@ -54,12 +54,22 @@ pub fn front(s: &[u8], n: usize) -> &[u8]
     if n <= s.len() { &s[0..n] } else { s }
 }
 
+// Where a byte first stands, or the length where it stands nowhere.
+pub fn find(s: &[u8], x: u8) -> usize
+    ensures { (result ≤ length s.now) × (result ≡ index_of x s.now) }
+{
+    let mut at = 0;
+    while at < s.len() && s[at] != x {
+        at += 1;
+    }
+    at
+}
+
 // What stands before the first bar, or all where there is none.
 pub fn before_bar(s: &[u8]) -> &[u8]
     ensures { result.now ≡ before_bar s.now }
 {
-    let n = s.len();
-    let at = bytes::scan::find(s, 0, n, b'|');
+    let at = find(s, b'|');
     &s[0..at]
 }
 
@@ -68,7 +78,7 @@ pub fn after_bar(s: &[u8]) -> &[u8]
     ensures { result.now ≡ after_bar s.now }
 {
     let n = s.len();
-    let at = bytes::scan::find(s, 0, n, b'|');
+    let at = find(s, b'|');
     if at < n { &s[at + 1..n] } else { &s[0..0] }
 }
 
