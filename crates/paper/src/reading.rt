@@ -2,6 +2,7 @@
 ghost use Rattle.std.specs.Prelude.{◌≡◌};
 ghost use Rattle.paper.specs.Reading.{stopped, read_to, after_code, after_item, after_byte, after_bytes, after_last};
 
+use crate::output::Output;
 use judgement::{Page, pages};
 use words::{Item, Reader};
 
@@ -37,7 +38,7 @@ fn read_to(r: Record, reader: Reader, goes: bool) -> Record
 }
 
 // The record after a code; a line feed shows the line that it ends.
-fn after_code(rt: &impl Print, r: Record, reader: Reader, c: u8) -> Record
+fn after_code(out: &mut Output<'_, impl Print>, r: Record, reader: Reader, c: u8) -> Record
     ensures { result ≡ after_code r reader c }
 {
     let page = r.page;
@@ -45,7 +46,7 @@ fn after_code(rt: &impl Print, r: Record, reader: Reader, c: u8) -> Record
     let next = heard.page;
     if pages::feeds(c) {
         let line = page.line;
-        crate::print_line(rt, line, r.number);
+        crate::print_line(out, line, r.number);
         return Record {
             reader,
             page: next,
@@ -62,21 +63,21 @@ fn after_code(rt: &impl Print, r: Record, reader: Reader, c: u8) -> Record
 }
 
 // The record after a word, if one was read; a bad one is shown, and ends it.
-fn after_item(rt: &impl Print, r: Record, reader: Reader, item: Item) -> Record
+fn after_item(out: &mut Output<'_, impl Print>, r: Record, reader: Reader, item: Item) -> Record
     ensures { result ≡ after_item r reader item }
 {
     match item {
         Item::Nothing => read_to(r, reader, true),
-        Item::Code(c) => after_code(rt, r, reader, c),
+        Item::Code(c) => after_code(out, r, reader, c),
         Item::Bad => {
-            crate::print_bad_word(rt, reader);
+            crate::print_bad_word(out, reader);
             read_to(r, reader, false)
         }
     }
 }
 
 // The record after a byte, if it goes on.
-fn after_byte(rt: &impl Print, r: Record, b: u8) -> Record
+fn after_byte(out: &mut Output<'_, impl Print>, r: Record, b: u8) -> Record
     ensures { result ≡ after_byte r b }
 {
     if !r.goes {
@@ -86,29 +87,29 @@ fn after_byte(rt: &impl Print, r: Record, b: u8) -> Record
     let read = words::read_byte(reader, b);
     let next = read.reader;
     let item = read.item;
-    after_item(rt, r, next, item)
+    after_item(out, r, next, item)
 }
 
 // The record after some bytes.
-pub fn after_bytes(rt: &impl Print, first: Record, s: &[u8]) -> Record
+pub fn after_bytes(out: &mut Output<'_, impl Print>, first: Record, s: &[u8]) -> Record
     ensures { result ≡ after_bytes first s.now }
 {
     let mut r = first;
     let mut i = 0;
     while i < s.len() {
-        r = after_byte(rt, r, s[i]);
+        r = after_byte(out, r, s[i]);
         i += 1;
     }
     r
 }
 
 // The record at the end of its bytes, which ends its last word.
-pub fn after_last(rt: &impl Print, r: Record) -> Record
+pub fn after_last(out: &mut Output<'_, impl Print>, r: Record) -> Record
     ensures { result ≡ after_last r }
 {
     let reader = r.reader;
     let read = words::finish(reader);
     let next = read.reader;
     let item = read.item;
-    after_item(rt, r, next, item)
+    after_item(out, r, next, item)
 }

@@ -1,0 +1,55 @@
+// Where the program shows what it has to show. The first write that fails is kept, and nothing is written after it.
+ghost use Rattle.std.specs.Prelude.{◌≡◌, IsOk, IsErr};
+ghost use Rattle.std.specs.Result.{is_ok};
+
+use std::io;
+
+#[derive(Drop)]
+pub struct Output<'a, P> {
+    to: &'a P,
+    written: io::Result<()>,
+}
+
+impl<'a, P: Print> Output<'a, P> {
+    // An output that nothing was written to.
+    pub fn new(to: &'a P) -> Output<'a, P>
+        ensures { IsOk result.written }
+    {
+        Output {
+            to,
+            written: Ok(()),
+        }
+    }
+
+    // Whether each write so far went well.
+    pub fn is_open(&self) -> bool
+        ensures { result ≡ is_ok self.now.written }
+    {
+        self.written.is_ok()
+    }
+
+    // Writes some bytes.
+    pub fn print(&mut self, s: &[u8])
+        ensures { IsErr self.old.written → self.new ≡ self.old }
+    {
+        if self.written.is_ok() {
+            self.written = self.to.write_all(s);
+        }
+    }
+
+    // Writes a number in decimal.
+    pub fn print_decimal(&mut self, n: u64)
+        ensures { IsErr self.old.written → self.new ≡ self.old }
+    {
+        if self.written.is_ok() {
+            self.written = self.to.print(n);
+        }
+    }
+
+    // How the writes went.
+    pub fn finish(self) -> io::Result<()>
+        ensures { result ≡ self.entry.written }
+    {
+        self.written
+    }
+}
