@@ -9,13 +9,14 @@
 ghost use Rattle.std.specs.Prelude.{◌≤◌, length};
 
 use entries::tables::{Entry, run_entry};
-use entries::text::{Form, after_bar, before_bar, byte_at, decode, front};
+use entries::text::{Form, after_bar, before_bar, byte_at, decode, find, front};
 use entries::traces::{
     Ran, Start, Verdict, form_first, form_second, form_taken, judged, lending, limited, prepared,
     ready,
 };
-use libc::STDOUT_FILENO;
 use linebox::Called;
+use std::io;
+use std::io::Read;
 use step::Stream;
 
 // How many vectors of a kind were run, and how many differ.
@@ -34,21 +35,31 @@ struct Tallies {
     next: Start,
 }
 
+// Prints some bytes, as far as they can be written.
+fn print(rt: &impl Print, s: &[u8]) {
+    let _ = rt.write_all(s);
+}
+
+// Prints a number in decimal, as far as it can be written.
+fn print_decimal(rt: &impl Print, n: u64) {
+    let _ = rt.print(n);
+}
+
 // A tally with one vector more; one that differs is printed.
-fn counted(t: Tally, same: bool, s: &[u8]) -> Tally {
-    let run = std::num::wrapping_add_u64(t.run, 1);
+fn counted(rt: &impl Print, t: Tally, same: bool, s: &[u8]) -> Tally {
+    let run = t.run.wrapping_add(1);
     if same {
         return Tally {
             run,
             differ: t.differ,
         };
     }
-    io::write_all(STDOUT_FILENO, b"differs: ");
-    io::write_all(STDOUT_FILENO, s);
-    io::write_all(STDOUT_FILENO, b"\n");
+    print(rt, b"differs: ");
+    print(rt, s);
+    print(rt, b"\n");
     Tally {
         run,
-        differ: std::num::wrapping_add_u64(t.differ, 1),
+        differ: t.differ.wrapping_add(1),
     }
 }
 
@@ -58,26 +69,26 @@ fn is_shown(form: Form, s: &[u8], text: &[u8]) -> bool {
     match form {
         Form::Decimal => {
             let n = sheet::spell(s, &mut out);
-            check::same(front(&out, n), text)
+            front(&out, n) == text
         }
         Form::Escaped => {
             let n = decode(Form::Escaped, text, &mut out);
-            check::same(s, front(&out, n))
+            s == front(&out, n)
         }
     }
 }
 
 // Prints what a box gave.
-fn print_shown(form: Form, s: &[u8]) {
-    io::write_all(STDOUT_FILENO, b"gave:");
+fn print_shown(rt: &impl Print, form: Form, s: &[u8]) {
+    print(rt, b"gave:");
     if let Form::Decimal = form {
         let mut out = [0u8; 1024];
         let n = sheet::spell(s, &mut out);
-        io::write_all(STDOUT_FILENO, front(&out, n));
+        print(rt, front(&out, n));
     } else {
-        io::write_all(STDOUT_FILENO, s);
+        print(rt, s);
     }
-    io::write_all(STDOUT_FILENO, b"; ");
+    print(rt, b"; ");
 }
 
 // A call's answer and the count it took are those of a text, or all that was left where the text is empty.
@@ -128,7 +139,7 @@ fn call(t: Stream, b: Start, input: &[u8], one: &mut [u8], two: &mut [u8]) -> Ca
 }
 
 // `H`, `L` or `T` with the input, the first output and the second: a call of that stream.
-fn run_call(t: Stream, b: Start, s: &[u8]) -> Ran {
+fn run_call(rt: &impl Print, t: Stream, b: Start, s: &[u8]) -> Ran {
     let given = after_bar(s);
     let first = after_bar(given);
     let second = after_bar(first);
@@ -145,34 +156,34 @@ fn run_call(t: Stream, b: Start, s: &[u8]) -> Ran {
         && is_shown(form_first(t), sent, before_bar(first))
         && is_shown(form_second(t), told, before_bar(second));
     if !same {
-        print_shown(form_first(t), sent);
-        print_shown(form_second(t), told);
+        print_shown(rt, form_first(t), sent);
+        print_shown(rt, form_second(t), told);
     }
     let next = r.state;
     judged(same, next)
 }
 
 // `F|bytes|message|`: the finder.
-fn run_find(b: Start, s: &[u8]) -> Ran {
+fn run_find(rt: &impl Print, b: Start, s: &[u8]) -> Ran {
     let given = after_bar(s);
     let mut input = [0u8; 512];
     let n = decode(Form::Escaped, before_bar(given), &mut input);
     let found = message::find(front(&input, n));
     let same = is_shown(Form::Escaped, found, before_bar(after_bar(given)));
     if !same {
-        print_shown(Form::Escaped, found);
+        print_shown(rt, Form::Escaped, found);
     }
     let state = b.state;
     judged(same, state)
 }
 
 // One traced line.
-fn run_trace(b: Start, s: &[u8]) -> Ran {
+fn run_trace(rt: &impl Print, b: Start, s: &[u8]) -> Ran {
     match byte_at(s, 0) {
-        b'H' => run_call(Stream::Host, b, s),
-        b'L' => run_call(Stream::Line, b, s),
-        b'T' => run_call(Stream::Tu, b, s),
-        b'F' => run_find(b, s),
+        b'H' => run_call(rt, Stream::Host, b, s),
+        b'L' => run_call(rt, Stream::Line, b, s),
+        b'T' => run_call(rt, Stream::Tu, b, s),
+        b'F' => run_find(rt, b, s),
         b'N' => prepared(ready(step::soundness::fresh())),
         b'R' => prepared(lending(b, s)),
         b'Z' => prepared(limited(b, s)),
@@ -181,41 +192,41 @@ fn run_trace(b: Start, s: &[u8]) -> Ran {
 }
 
 // The tally of traces after a line.
-fn traced(t: Tally, v: Verdict, s: &[u8]) -> Tally {
+fn traced(rt: &impl Print, t: Tally, v: Verdict, s: &[u8]) -> Tally {
     match v {
         Verdict::Other => t,
-        Verdict::Same => counted(t, true, s),
-        Verdict::Differs => counted(t, false, s),
+        Verdict::Same => counted(rt, t, true, s),
+        Verdict::Differs => counted(rt, t, false, s),
     }
 }
 
 // All tallies after a line.
-fn tallied(t: Tallies, s: &[u8]) -> Tallies {
+fn tallied(rt: &impl Print, t: Tallies, s: &[u8]) -> Tallies {
     let ascii = t.ascii;
     let ustty = t.ustty;
     let traces = t.traces;
     let start = t.next;
     match run_entry(s) {
         Entry::Ascii(same) => Tallies {
-            ascii: counted(ascii, same, s),
+            ascii: counted(rt, ascii, same, s),
             ustty,
             traces,
             next: start,
         },
         Entry::Ustty(same) => Tallies {
             ascii,
-            ustty: counted(ustty, same, s),
+            ustty: counted(rt, ustty, same, s),
             traces,
             next: start,
         },
         Entry::Other => {
-            let r = run_trace(start, s);
+            let r = run_trace(rt, start, s);
             let verdict = r.verdict;
             let next = r.next;
             Tallies {
                 ascii,
                 ustty,
-                traces: traced(traces, verdict, s),
+                traces: traced(rt, traces, verdict, s),
                 next,
             }
         }
@@ -223,7 +234,7 @@ fn tallied(t: Tallies, s: &[u8]) -> Tallies {
 }
 
 // All lines of the text.
-fn run_all(s: &[u8]) -> Tallies {
+fn run_all(rt: &impl Print, s: &[u8]) -> Tallies {
     let none = Tally { run: 0, differ: 0 };
     let mut t = Tallies {
         ascii: none,
@@ -233,30 +244,31 @@ fn run_all(s: &[u8]) -> Tallies {
     };
     let mut at = 0;
     while at < s.len() {
-        let end = bytes::scan::find(s, at, s.len(), b'\n');
-        t = tallied(t, &s[at..end]);
+        let end = at + find(&s[at..], b'\n');
+        t = tallied(rt, t, &s[at..end]);
         at = end + 1;
     }
     t
 }
 
 // Prints the name of a kind of vectors, what one is called, and their tally.
-fn print_tally(name: &[u8], t: Tally, each: &[u8]) {
-    io::write_all(STDOUT_FILENO, name);
-    io::print_decimal(STDOUT_FILENO, t.run);
-    io::write_all(STDOUT_FILENO, each);
-    io::print_decimal(STDOUT_FILENO, t.differ);
-    io::write_all(STDOUT_FILENO, b" differ\n");
+fn print_tally(rt: &impl Print, name: &[u8], t: Tally, each: &[u8]) {
+    print(rt, name);
+    print_decimal(rt, t.run);
+    print(rt, each);
+    print_decimal(rt, t.differ);
+    print(rt, b" differ\n");
 }
 
-fn main() {
-    let mut text = io::large_buffer();
-    let n = io::read_full(libc::STDIN_FILENO, &mut text);
-    let t = run_all(&text[..n]);
+fn main(rt: HostRuntime) -> io::Result<()> {
+    let mut text = Vec::new(rt.alloc());
+    rt.reader().read_to_end(&mut text)?;
+    let t = run_all(&rt, &text);
     let ascii = t.ascii;
     let ustty = t.ustty;
     let traces = t.traces;
-    print_tally(b"ASCII-67 to USTTY: ", ascii, b" entries, ");
-    print_tally(b"USTTY to ASCII-67: ", ustty, b" entries, ");
-    print_tally(b"Traces and commands: ", traces, b" vectors, ");
+    print_tally(&rt, b"ASCII-67 to USTTY: ", ascii, b" entries, ");
+    print_tally(&rt, b"USTTY to ASCII-67: ", ustty, b" entries, ");
+    print_tally(&rt, b"Traces and commands: ", traces, b" vectors, ");
+    Ok(())
 }
