@@ -6,7 +6,6 @@ use mathlib.Core.List.{List, []}
 use native.Mathlib.Omega.{arith}
 use native.Mathlib.Numerals.{add-one}
 use lib.ListN.{length, take, drop, drop_of_length-le}
-use lib.Seq.{take-length}
 use Rattle.laws.proofs.Tail.{from_start, to_end}
 use Rattle.entries.specs.Text.{index_of}
 

@@ -1,7 +1,6 @@
 -- What the calls of the traced lines start with.
 use Rattle.std.specs.Prelude.{ℕ, Bool, true, false, List, get_or, replicate}
 use Rattle.laws.specs.Written.{fronted}
-use Rattle.settings.specs.declared.Settings.{Settings}
 use Rattle.settings.specs.Command.{kept, with_value}
 use Rattle.step.specs.declared.State.{State}
 use Rattle.step.specs.State.{with_stored}

@@ -192,10 +192,7 @@ fn print_bad_argument(rt: &impl Print, s: &[u8], is_whole: bool) {
     if !is_whole {
         print(rt, b"..");
     }
-    print(
-        rt,
-        b"`: it takes no argument; use: ./logsheet < NIGHT\n",
-    );
+    print(rt, b"`: it takes no argument; use: ./logsheet < NIGHT\n");
 }
 
 fn main(rt: HostRuntime) {

@@ -1,6 +1,5 @@
 -- `entries::tables::ascii_holds` meets its contract: the marks are compared, then the codes.
 use borrow.Author.Tests.{eq-eqb, ne_eqb}
-use borrow.Author.Rules.{rules}
 use Rattle.entries.proofs.tables.ascii_holds.Goals as goal
 
 pub returns-then-mark_of-byte_at : goal.returns-then-mark_of-byte_at

@@ -1,5 +1,4 @@
 -- `entries::tables::hex_at` meets its contract: the two bytes are those at the place and after it.
-use borrow.Author.Rules.{rules}
 use Rattle.entries.proofs.tables.hex_at.Goals as goal
 
 pub returns : goal.returns

@@ -1,6 +1,5 @@
 -- `entries::tables::run_entry` meets its contract: the first byte says which table the line is of.
 use borrow.Author.Tests.{eq-eqb, ne_eqb}
-use borrow.Author.Rules.{rules}
 use Rattle.entries.proofs.tables.run_entry.Goals as goal
 
 pub returns-then-kind-eq65 : goal.returns-then-kind-eq65

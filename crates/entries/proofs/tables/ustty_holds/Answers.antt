@@ -1,6 +1,5 @@
 -- `entries::tables::ustty_holds` meets its contract: the letters are compared, then the figures.
 use borrow.Author.Tests.{eq-eqb, ne_eqb}
-use borrow.Author.Rules.{rules}
 use Rattle.entries.proofs.tables.ustty_holds.Goals as goal
 
 pub returns-then-row_at-hex_at : goal.returns-then-row_at-hex_at

@@ -1,6 +1,5 @@
 -- `entries::text::after_bar` meets its contract: what stands after the place of the first bar, which is in the text or there is none.
 use Rattle.entries.proofs.Parts.{after, none}
-use borrow.Author.Rules.{rules}
 use Rattle.entries.proofs.text.after_bar.Goals as goal
 
 pub returns-then-at-n : goal.returns-then-at-n

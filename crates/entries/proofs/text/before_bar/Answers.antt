@@ -1,6 +1,5 @@
 -- `entries::text::before_bar` meets its contract: what stands before the place of the first bar.
 use Rattle.entries.proofs.Parts.{before}
-use borrow.Author.Rules.{rules}
 use Rattle.entries.proofs.text.before_bar.Goals as goal
 
 pub returns : goal.returns

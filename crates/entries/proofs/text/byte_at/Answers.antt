@@ -1,7 +1,6 @@
 -- `entries::text::byte_at` meets its contract: past the end there is nothing.
 use mathlib.Core.Path.{sym}
 use lib.ListN.{get_or-eq_default}
-use borrow.Author.Rules.{rules}
 use Rattle.entries.proofs.text.byte_at.Goals as goal
 
 pub returns-else-at-s : goal.returns-else-at-s

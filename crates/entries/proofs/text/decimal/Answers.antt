@@ -1,7 +1,6 @@
 -- `entries::text::decimal` meets its contract: each test picks its case of `decimal`.
 use native.Mathlib.Omega.{arith}
 use borrow.Author.Tests.{le-ltb, lt-ltb}
-use borrow.Author.Rules.{rules}
 use Rattle.entries.proofs.text.decimal.Goals as goal
 
 pub returns-then-y-lt48 : goal.returns-then-y-lt48

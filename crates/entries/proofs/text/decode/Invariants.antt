@@ -1,14 +1,8 @@
 -- `entries::text::decode` meets its contract. The invariant: the place is at most three past the end of the text, the count
 -- within the buffer, and the whole outcome is what is written so far and what the rest of the text is decoded to.
-use Prim.Native.Nat.{◌≤◌, ◌<◌, ◌+◌, ◌-◌}
-use mathlib.Core.Path.{◌≡◌}
-use native.Mathlib.Omega.{arith}
-use lib.ListN.{length, drop}
-use borrow.Author.Tests.{ltb-true, ltb-false}
-use Rattle.laws.proofs.Tail.{to_end}
-use Rattle.entries.specs.Text.{first_piece}
-use Rattle.entries.proofs.Decoding.{Decodes, start, turn, text_ends, room_ends}
-use borrow.Author.Rules.{rules}
+use Prim.Native.Nat.{◌≤◌, ◌+◌, ◌-◌}
+use lib.ListN.{length}
+use Rattle.entries.proofs.Decoding.{Decodes}
 use Rattle.entries.proofs.text.decode.Given as goal
 
 abbrev pub invariant-loop-i : goal.invariant-loop-i

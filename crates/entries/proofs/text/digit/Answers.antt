@@ -1,7 +1,6 @@
 -- `entries::text::digit` meets its contract: each test picks its case of `digit`.
 use native.Mathlib.Omega.{arith}
 use borrow.Author.Tests.{le-ltb, lt-ltb}
-use borrow.Author.Rules.{rules}
 use Rattle.entries.proofs.text.digit.Goals as goal
 
 pub returns-then-x-lt48 : goal.returns-then-x-lt48

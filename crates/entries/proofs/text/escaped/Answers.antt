@@ -3,7 +3,6 @@ use mathlib.Core.Path.{◌∙◌}
 use native.Mathlib.Omega.{arith}
 use lib.ListN.{get_or}
 use borrow.Author.Tests.{eq-eqb, ne_eqb}
-use borrow.Author.Rules.{rules}
 use Rattle.entries.proofs.text.escaped.Goals as goal
 
 pub returns-then-byte_at-ne92 : goal.returns-then-byte_at-ne92

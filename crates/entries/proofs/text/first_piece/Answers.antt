@@ -1,5 +1,4 @@
 -- `entries::text::first_piece` meets its contract: each form is a case of `first_piece`.
-use borrow.Author.Rules.{rules}
 use Rattle.entries.proofs.text.first_piece.Goals as goal
 
 pub returns-in-Escaped : goal.returns-in-Escaped

@@ -3,7 +3,6 @@ use mathlib.Core.Path.{sym}
 use native.Mathlib.Omega.{arith}
 use lib.Seq.{take_all}
 use Rattle.laws.proofs.Tail.{from_start}
-use borrow.Author.Rules.{rules}
 use Rattle.entries.proofs.text.front.Goals as goal
 
 pub returns-then-n-s : goal.returns-then-n-s

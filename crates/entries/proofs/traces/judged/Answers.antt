@@ -1,5 +1,4 @@
 -- `entries::traces::judged` meets its contract: each verdict is a case of `judged`.
-use borrow.Author.Rules.{rules}
 use Rattle.entries.proofs.traces.judged.Goals as goal
 
 pub returns-then-same : goal.returns-then-same

@@ -1,6 +1,5 @@
 -- `entries::traces::lending` meets its contract: the three places are the numbers of the first field.
 use Rattle.entries.proofs.Fields.{in_field}
-use borrow.Author.Rules.{rules}
 use Rattle.entries.proofs.traces.lending.Goals as goal
 
 pub returns : goal.returns

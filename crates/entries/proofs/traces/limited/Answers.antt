@@ -1,6 +1,5 @@
 -- `entries::traces::limited` meets its contract: the one place is the number of the first field.
 use Rattle.entries.proofs.Fields.{in_field}
-use borrow.Author.Rules.{rules}
 use Rattle.entries.proofs.traces.limited.Goals as goal
 
 pub returns : goal.returns
