@@ -15,7 +15,6 @@ use entries::traces::{
     ready,
 };
 use linebox::Called;
-use std::io;
 use std::io::Read;
 use step::Stream;
 
@@ -260,16 +259,29 @@ fn print_tally(rt: &impl Print, name: &[u8], t: Tally, each: &[u8]) {
     print(rt, b" differ\n");
 }
 
-fn main(rt: HostRuntime) -> io::Result<()> {
-    // it has room for 65,536 bytes
-    let mut text = Vec::new(rt.alloc());
-    rt.reader().take(65536).read_to_end(&mut text)?;
-    let t = run_all(&rt, &text);
+// Reads until the buffer is full or the input ends or fails, and gives how many bytes came.
+fn read_full(input: &mut impl Read, s: &mut [u8]) -> usize
+    ensures { result ≤ length s.new }
+{
+    let mut n = 0;
+    while n < s.len() {
+        match input.read(&mut s[n..]) {
+            Ok(0) => return n,
+            Ok(more) => n += more,
+            Err(_) => return n,
+        }
+    }
+    n
+}
+
+fn main(rt: HostRuntime) {
+    let mut text = [0u8; 65536];
+    let n = read_full(&mut rt.reader(), &mut text);
+    let t = run_all(&rt, &text[..n]);
     let ascii = t.ascii;
     let ustty = t.ustty;
     let traces = t.traces;
     print_tally(&rt, b"ASCII-67 to USTTY: ", ascii, b" entries, ");
     print_tally(&rt, b"USTTY to ASCII-67: ", ustty, b" entries, ");
     print_tally(&rt, b"Traces and commands: ", traces, b" vectors, ");
-    Ok(())
 }
