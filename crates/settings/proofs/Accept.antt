@@ -48,6 +48,15 @@ judged fault.Parameters ok e = absurd (omega (arith, ap number_of e))
 judged fault.Checksum ok e = absurd (omega (arith, ap number_of e))
 judged fault.Range ok e = absurd (omega (arith, ap number_of e))
 
+-- any other error goes first
+pub unjudged : (f : Fault) (ok : Bool) → (f ≡ fault.Nothing → ⊥) → jointly f ok ≡ f
+unjudged fault.Nothing ok h = absurd (h refl)
+unjudged fault.Type ok h = refl
+unjudged fault.Id ok h = refl
+unjudged fault.Parameters ok h = refl
+unjudged fault.Checksum ok h = refl
+unjudged fault.Range ok h = refl
+
 module _ (s : Settings) (k : Calling) (c : Connection) (v : Verb) (count : ℕ) (fields : List ℕ) where
   -- a command without error succeeds
   pub success : wrong s k c v count fields ≡ fault.Nothing → commanded s k c v count fields ≡ succeeded s k c v (row (get_or fields 0 0)) fields
