@@ -3,8 +3,9 @@
 use mathlib.Core.Path.{◌≡◌, refl}
 use mathlib.Core.Bool.{Bool, true, false, not, cond, ◌||◌}
 use Prim.Native.Nat.{ℕ, ◌<◌}
-use native.Mathlib.Omega.{arith}
-use borrow.Author.Tests.{ne_eqb, ltb-false}
+use mathlib.Core.Logic.{◌⊎◌, ⊎_elim}
+use borrow.Author.Tests.{tests}
+use borrow.Author.Rules.{rules}
 use lib.Dec.{T, eqb}
 use Rattle.laws.proofs.Table.{upto, below}
 use Rattle.code.specs.declared.Case.TheVariants.{Letters, Figures}
@@ -15,7 +16,6 @@ use Rattle.code.specs.Kinds.{kind_of}
 use Rattle.code.proofs.Laws.{no_code}
 use Rattle.code.proofs.Values.{six}
 use Rattle.code.proofs.kind_of.Goals as goal
-use Rattle.code.proofs.kind_of.Goals.{then-c-eq0-via-then-c-eq0, then-c-eq0-via-else-c-eq0+then-c-eq2, then-c-eq0-via-else-c-eq0+else-c-eq2+then-c-gt31}
 
 abbrev charred : Bool → Kind → Bool
 charred b Still = false
@@ -53,34 +53,33 @@ none : (c : ℕ) → 31 < c → Still ≡ kind_of c
 unfolding kind_of
 none c h = rw (no_code Letters c h, no_code Figures c h)
 
-pub returns-then-c-eq4 : goal.returns-then-c-eq4
+pub returns-in-4 : goal.returns-in-4
 unfolding kind_of row_at
-returns-then-c-eq4 c = rw c.if-c-eq4.true
+returns-in-4 c = rw c.in-4.is
 
-pub returns-then-c-eq8 : goal.returns-then-c-eq8
+pub returns-in-8 : goal.returns-in-8
 unfolding kind_of row_at
-returns-then-c-eq8 c = rw c.if-c-eq8.true
+returns-in-8 c = rw c.in-8.is
 
-pub returns-then-c-eq27 : goal.returns-then-c-eq27
+pub returns-in-27 : goal.returns-in-27
 unfolding kind_of row_at
-returns-then-c-eq27 c = rw c.if-c-eq27.true
+returns-in-27 c = rw c.in-27.is
 
-pub returns-then-c-eq31 : goal.returns-then-c-eq31
+pub returns-in-31 : goal.returns-in-31
 unfolding kind_of row_at
-returns-then-c-eq31 c = rw c.if-c-eq31.true
+returns-in-31 c = rw c.in-31.is
 
-pub returns-then-c-eq0 : goal.returns-then-c-eq0
+pub returns-in_default : goal.returns-in_default
+returns-in_default c =
+    let l : c.args.c < 32 = search (tests, rules) in
+    let s : six c.args.c ≡ false = search (tests, rules) in
+    other c.args.c l s
+
+pub returns-in-0 : goal.returns-in-0
 unfolding kind_of row_at
-returns-then-c-eq0 c =
-    elim c.then-c-eq0.branch [
-      | then-c-eq0-via-then-c-eq0 w ↦ rw w.if-c-eq0.true
-      | then-c-eq0-via-else-c-eq0+then-c-eq2 w ↦ rw w.if-c-eq2.true
-      | then-c-eq0-via-else-c-eq0+else-c-eq2+then-c-gt31 w ↦ none c.args.c w.if-c-gt31.true
-    ]
+returns-in-0 c =
+    let e : (c.args.c ≡ 0) ⊎ (c.args.c ≡ 2) = search (tests, rules) in
+    ⊎_elim (λ z. rw z) (λ z. rw z) e
 
-pub returns : goal.returns
-returns c =
-    let n = c.args.c in
-    let l : n < 32 = omega (arith, ltb-false 31 n c.if-c-gt31.false-raw) in
-    other n l
-    (simp (ne_eqb n 0 c.if-c-eq0.false, c.if-c-eq2.false-raw, ne_eqb n 4 c.if-c-eq4.false, ne_eqb n 8 c.if-c-eq8.false, ne_eqb n 27 c.if-c-eq27.false, ne_eqb n 31 c.if-c-eq31.false))
+pub returns-in-0-2 : goal.returns-in-0-2
+returns-in-0-2 c = none c.args.c (search (tests, rules))

@@ -1,12 +1,14 @@
--- `code::row_at` meets its contract: the array of two rows is `rows`, and past the end of a row `get_or` gives 0.
-use mathlib.Core.Path.{sym}
+-- `code::row_at` meets its contract: past the end of a row there is no character.
+use Rattle.std.proofs.Common.{◌≡◌, rules, tests, get_or}
 use Rattle.code.specs.Rows.{row_at}
-use Rattle.code.proofs.Laws.{no_code}
 use Rattle.code.proofs.row_at.Goals as goal
+use Rattle.code.proofs.row_at.Goals.{in-Letters, in-Figures}
 
-pub returns-then-c-lt32 : goal.returns-then-c-lt32
+pub returns : goal.returns
 unfolding row_at
-returns-then-c-lt32 c = simp c.place_of-row.ensures.1
-
-pub returns-else-c-lt32 : goal.returns-else-c-lt32
-returns-else-c-lt32 c = sym (no_code c.args.case c.args.c c.if-c-lt32.false)
+returns c =
+    let e : c.unwrap_or.result ≡ get_or c.match-case.row.now c.args.c 0 = search (rules, tests) in
+    elim c.match-case.branch [
+      | in-Letters w ↦ simp (e, w.in-Letters.is, w.row-is)
+      | in-Figures w ↦ simp (e, w.in-Figures.is, w.row-is)
+    ]
