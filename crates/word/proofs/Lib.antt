@@ -1,2 +1,4 @@
 pub mod Words
 pub mod Packs
+pub mod Bytes
+pub mod Unpacks

@@ -4,6 +4,8 @@
 ghost use Rattle.std.specs.Prelude.{◌≡◌, ◌+◌, ◌*◌, ◌<◌};
 ghost use Rattle.word.specs.Word.{unpacked, packed, is_word};
 
+use std::array;
+
 // The word of a code and, above it, the others.
 fn beneath(rest: u64, c: u8) -> u64
     requires { rest < 288230376151711744 }
@@ -16,11 +18,9 @@ fn beneath(rest: u64, c: u8) -> u64
 pub fn pack(cs: [u8; 8]) -> u64
     ensures { result ≡ packed cs }
 {
-    let mut n: u64 = 0;
-    let mut i = 8;
-    while 0 < i {
-        i -= 1;
-        n = beneath(n, cs[i]);
+    let mut n = 0;
+    for c in cs.iter().rev() {
+        n = beneath(n, *c);
     }
     n
 }
@@ -29,23 +29,7 @@ pub fn pack(cs: [u8; 8]) -> u64
 pub fn unpack(n: u64) -> [u8; 8]
     ensures { result ≡ unpacked n }
 {
-    let b = n / 32;
-    let c = b / 32;
-    let d = c / 32;
-    let e = d / 32;
-    let f = e / 32;
-    let g = f / 32;
-    let h = g / 32;
-    [
-        (n % 32) as u8,
-        (b % 32) as u8,
-        (c % 32) as u8,
-        (d % 32) as u8,
-        (e % 32) as u8,
-        (f % 32) as u8,
-        (g % 32) as u8,
-        (h % 32) as u8,
-    ]
+    array::from_fn(|i| ((n >> (5 * i)) % 32) as u8)
 }
 
 // Whether the upper bits are zero.

@@ -1,9 +1,6 @@
--- `word::pack` meets its contract. The loop's invariant: the codes from place `i` on are packed.
+-- `word::pack` meets its contract. The loop's invariant: the codes behind those that are left are packed.
 use Rattle.word.proofs.Packs.{Packs}
 use Rattle.word.proofs.pack.Given as goal
 
-abbrev pub invariant-loop-i : goal.invariant-loop-i
-invariant-loop-i l = Packs l.cs l.i l.n
-
-abbrev pub decreases-loop-i : goal.decreases-loop-i
-decreases-loop-i l = l.i
+abbrev pub invariant-loop-c : goal.invariant-loop-c
+invariant-loop-c l = Packs l.fn.cs l.c-iterator.iter.rest.now l.n
