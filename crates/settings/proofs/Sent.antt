@@ -1,7 +1,7 @@
 -- What a command answers can be sent: its numbers are those of a message, of at most 37 bytes.
 -- Assumes nothing.
 use Prim.Native.Nat.{ℕ, ◌*◌, ◌≤◌}
-use mathlib.Core.Path.{◌≡◌, refl, sym, subst, ◌∙◌}
+use mathlib.Core.Path.{◌≡◌, refl, sym, ◌∙◌}
 use mathlib.Core.Bool.{Bool, true, false, cond, ◌&&◌, ◌||◌, false≢true}
 use mathlib.Core.List.{List, [], ◌∷◌}
 use native.Mathlib.Nat.{le_trans}
@@ -22,9 +22,10 @@ use Rattle.settings.specs.Command.{fault_of, together, number_of, obey, numbers_
 use Rattle.settings.specs.Laws.{answer_of, Sound, Sendable, Short}
 use Rattle.settings.proofs.Accept.{accepted, judged}
 use Rattle.laws.proofs.Both.{both}
+use Rattle.std.specs.Prelude.{Result, Ok, Err}
 use Rattle.settings.proofs.Rows.{low_at, high_at, fits_home, number_fits, row_fits, row_number}
 use Rattle.settings.proofs.Held.{values_in, value_in, power_in}
-use Rattle.settings.proofs.Written.{answer_outcome, defined, obey_sound}
+use Rattle.settings.proofs.Written.{defined, obey_sound}
 
 -- How long a message of codes is.
 
@@ -63,7 +64,6 @@ code_bytes (c ∷ cs) h =
     (omega (arith, ltb-true c 32 b.0), code_bytes cs b.1)
 
 fault_byte : (f : Fault) → number_of f ≤ 255
-fault_byte fault.Nothing = lit≤ tt
 fault_byte fault.Type = lit≤ tt
 fault_byte fault.Id = lit≤ tt
 fault_byte fault.Parameters = lit≤ tt
@@ -139,29 +139,25 @@ module _ (s : Settings) (k : Calling) (c : Connection) (h : Sound s k c) (v : Ve
   unfolding commanded
   answers_by P refuses sends = go (wrong s k c v count fields) refl
     where
-      go : (f : Fault) → wrong s k c v count fields ≡ f → P (answered f s k c v (row (get_or fields 0 0)) fields)
-      go fault.Nothing e =
+      go : (f : Result (Unit {0}) Fault) → wrong s k c v count fields ≡ f → P (answered f s k c v (row (get_or fields 0 0)) fields)
+      go (Ok u) e =
           let i = get_or fields 0 0 in
           let t = obey s k c v (row i) (drop 2 fields) in
           let j = judged (fault_of v (row i) count fields) (together v t.settings) e in
           let a = accepted v (row i) count fields j.0 in
           sends t (reading t (row i)) (read t i (obey_sound s k c h v _ i fields l (defined v i a.n a.takes) a j.1))
-      go fault.Type e = refuses fault.Type
-      go fault.Id e = refuses fault.Id
-      go fault.Parameters e = refuses fault.Parameters
-      go fault.Checksum e = refuses fault.Checksum
-      go fault.Range e = refuses fault.Range
+      go (Err f) e = refuses f
 
   -- from sound settings any command answers a message, of at most 37 bytes
   pub answers : get_or fields 0 0 ≤ 255 → Sendable (answer_of (commanded s k c v count fields))
   answers byte =
-      answers_by (λ o. Sendable (answer_of o)) (λ f. few (refusing f) (lit≤ tt, (lit≤ tt, (byte, (fault_byte f, tt)))) refl (lit≤ tt)) (λ t ns sent. rw answer_outcome sent)
+      answers_by (λ o. Sendable (answer_of o)) (λ f. few (refusing f) (lit≤ tt, (lit≤ tt, (byte, (fault_byte f, tt)))) refl (lit≤ tt)) (λ t ns sent. sent)
 
   -- whatever stands in its first field, the answer is short
   pub answers_short : Short (commanded s k c v count fields)
   answers_short =
       answers_by Short (λ f. record { few = lit≤ tt; short = omega (arith, framed_few (refusing f)) })
-      (λ t ns sent. record { few = sent.few; short = subst (λ (l : List ℕ). length (framed l) ≤ 37) (sym (answer_outcome t ns)) sent.short })
+      (λ t ns sent. record { few = sent.few; short = sent.short })
 
 -- and 37 bytes are reached: string 91 written with eight codes of two digits
 pub longest : (c : Connection) → length (framed (answer_of (commanded factory factory_calling c Write 10 (91 ∷ 8 ∷ 10 ∷ 10 ∷ 10 ∷ 10 ∷ 10 ∷ 10 ∷ 10 ∷ 10 ∷ 0 ∷ [])))) ≡ 37

@@ -3,15 +3,16 @@
 use Prim.Native.Nat.{ℕ, zero, suc, ◌/◌, ◌%◌, ◌^◌, ◌<◌}
 use mathlib.Core.Path.{◌≡◌, refl, sym, ap, subst, ◌∙◌}
 use mathlib.Core.Bool.{Bool, true, false, ◌&&◌, or-false, false≢true}
-use mathlib.Core.List.{List}
+use mathlib.Core.List.{List, [], ◌∷◌}
 use native.Mathlib.Nat.{pow-zero, mod-add-div, div-lt_self}
 use native.Mathlib.Omega.{arith}
 use borrow.Author.Tests.{eqb-true, eqb-false, eq-eqb, ne_eqb}
-use lib.Dec.{eqb, lit≤}
+use lib.Dec.{eqb, ltb, lit≤}
 use lib.ListN.{length}
+use Rattle.std.specs.List.{list_all}
 use Rattle.word.specs.Word.{digits_by, number_by, all_below, unpacked, packed, is_word, bytes_of}
 use Rattle.word.proofs.Words.{digits_below, digits_number, fewer, codes_packed, below}
-use Rattle.settings.specs.Table.{all_codes, all_zero, padded, early, opens, sound_string, sound_signal, is_signal}
+use Rattle.settings.specs.Table.{all_codes, all_zero, padded, early, opens, sound_string, sound_signal, is_signal, all_signals}
 
 -- so many codes are left, and what is asked of all is asked of them
 pub record Left (f : List ℕ → Bool) (n rest : ℕ) : Type 0 where
@@ -100,3 +101,13 @@ word_string n = rw (digits_below 32 (lit≤ tt) 8 n)
 -- a number made of bytes has them as its own
 pub bytes_number : (bs : List ℕ) → all_below 256 bs ≡ true → length bs ≡ 8 → (n : ℕ) → n ≡ number_by 256 bs → bytes_of n ≡ bs
 bytes_number bs h l n e = rw e (subst (λ (k : ℕ). digits_by 256 k (number_by 256 bs) ≡ bs) l (digits_number 256 (lit≤ tt) bs h))
+
+-- Each of a list.
+
+pub each_code : (cs : List ℕ) → list_all (λ c. ltb c 32) cs ≡ all_codes cs
+each_code [] = refl
+each_code (c ∷ cs) = rw (each_code cs)
+
+pub each_signal : (ns : List ℕ) → list_all is_signal ns ≡ all_signals ns
+each_signal [] = refl
+each_signal (n ∷ ns) = rw (each_signal ns)

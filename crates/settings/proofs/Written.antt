@@ -1,40 +1,36 @@
 -- What is written is what was given, and is read back; sound settings, calling and connection stay sound.
 -- Assumes nothing.
-use Prim.Native.Nat.{ℕ, ◌-◌, ◌<◌}
+use Prim.Native.Nat.{ℕ, ◌<◌}
 use mathlib.Core.Path.{◌≡◌, refl, ap, sym, subst, ◌∙◌}
 use mathlib.Core.Bool.{Bool, true, false, ◌&&◌, not, false≢true, true≢false}
 use mathlib.Core.List.{List, [], ◌∷◌}
 use native.Mathlib.Omega.{arith}
 use borrow.Author.Tests.{ltb-true, eqb-true}
 use lib.Dec.{eqb, leb, ltb}
-use lib.ListN.{length, get_or, take, drop, replicate, length-drop, length-set}
-use lib.Seq.{length-take-le, take-append_seam}
+use lib.ListN.{length, get_or, take, drop, length-drop, length-set}
+use lib.Seq.{length-take-le}
 use Rattle.laws.proofs.Both.{both}
 use Rattle.word.specs.Word.{unpacked, packed, is_word}
 use Rattle.word.proofs.Words.{codes_packed, below}
-use Rattle.settings.specs.Names.{Verb, Write, Read, Other, Settings, Calling, Connection, Home, Version, Linked, Unlinked, Value, String, Power, Signal, Factory, Nowhere, Row, Takes, Count, Fault, Stored}
-use Rattle.settings.specs.Names.fault
+use Rattle.settings.specs.Names.{Verb, Write, Read, Other, Settings, Calling, Connection, Home, Version, Linked, Unlinked, Value, String, Power, Signal, Factory, Nowhere, Row, Fault, Stored}
+use Rattle.std.specs.Prelude.{Option, Some, Result, Ok, Err}
 use Rattle.settings.specs.Table.{between, in_range, all_codes, padded, opens, options, row, is_connection, width, takes_if, taken_by, factory, factory_calling, is_power, sound_string, sound_signal, sound_stand_in, sound_settings, is_signal, sound_calling, sound_link, sound_connection}
-use Rattle.settings.specs.Command.{fault_of, together, kept, joined, recalled, link, with_value, with_string, with_power, with_signal, store, obey, values_at, numbers_at, reading, outcome, answered, wrong, commanded}
+use Rattle.settings.specs.Command.{fault_of, together, kept, joined, recalled, link, with_value, with_string, with_power, with_signal, store, obey, values_at, numbers_at, reading, answered, wrong, commanded}
 use Rattle.settings.specs.Laws.{Lasts, answer_of, read_by, Sound}
 use Rattle.settings.proofs.Accept.{Accepted, accepted, judged, success}
 use Rattle.settings.proofs.Rows.{low_at, high_at, fits_home, found, row_fits}
 use Rattle.settings.proofs.Held.{set_in, set_get, values_in, string_in, set_signals, power_in, five_strings, signals_in}
 use Rattle.settings.proofs.Strings.{signal_word}
 
--- the answer of an outcome is the list that it was made of
-pub answer_outcome : (t : Stored) (ns : List ℕ) → answer_of (outcome t ns) ≡ ns
-answer_outcome t ns = take-append_seam ns (replicate (10 - length ns) 0)
-
 -- Rows that a command takes.
 
 -- it can be done, and takes so many
-takes_can : (can : Bool) (w n : ℕ) → takes_if can w ≡ Count n → (can ≡ true) × (w ≡ n)
+takes_can : (can : Bool) (w n : ℕ) → takes_if can w ≡ Some n → (can ≡ true) × (w ≡ n)
 takes_can true w n e = (refl, cc)
 takes_can false w n e = let z : ◌≡◌ {A = ℕ} 0 1 = cc in absurd (omega arith)
 
 -- an id that a command takes is in the table
-pub defined : (v : Verb) (id n : ℕ) → taken_by v (row id) ≡ Count n → (row id).home ≡ Nowhere → ⊥
+pub defined : (v : Verb) (id n : ℕ) → taken_by v (row id) ≡ Some n → (row id).home ≡ Nowhere → ⊥
 defined v id n e w = go v e
   where
     neither : (not (row id).written && not (row id).read) ≡ true
@@ -44,7 +40,7 @@ defined v id n e w = go v e
     off true e f = false≢true f
     off false e f = false≢true e
 
-    go : (v : Verb) → taken_by v (row id) ≡ Count n → ⊥
+    go : (v : Verb) → taken_by v (row id) ≡ Some n → ⊥
     go Write e = off (row id).written (takes_can (row id).written (width (row id).home) n e).0 (both (not (row id).written) (not (row id).read) neither).0
     go Read e = off (row id).read (takes_can (row id).read 0 n e).0 (both (not (row id).written) (not (row id).read) neither).1
     go Other e = let z : ◌≡◌ {A = ℕ} 0 1 = cc in omega arith
@@ -127,7 +123,7 @@ values_long n ps (Signal i) l = eight ps l
 values_long n ps Factory l = refl
 values_long n ps Nowhere l = refl
 
-module _ (s : Settings) (k : Calling) (c : Connection) (count : ℕ) (fields : List ℕ) (eleven : length fields ≡ 11) (all : length s.values ≡ length options) (five : length k.strings ≡ 5) (ok : wrong s k c Write count fields ≡ fault.Nothing) where
+module _ (s : Settings) (k : Calling) (c : Connection) (count : ℕ) (fields : List ℕ) (eleven : length fields ≡ 11) (all : length s.values ≡ length options) (five : length k.strings ≡ 5) (ok : wrong s k c Write count fields ≡ Ok tt) where
   -- a write answers the id, the number of parameters and the parameters, as they were given
   pub written : answer_of (commanded s k c Write count fields) ≡ get_or fields 0 0 ∷ get_or fields 1 0 ∷ take (get_or fields 1 0) (drop 2 fields)
   written =
@@ -138,7 +134,7 @@ module _ (s : Settings) (k : Calling) (c : Connection) (count : ℕ) (fields : L
       let l : length (drop 2 fields) ≡ 9 = rw (length-drop, eleven) in
       let f = found id (defined Write id a.n a.takes) in
       let v = stored_values s k c (drop 2 fields) l all five r.home r.number r.written r.read (row_fits id) t.0 a.inside in
-      rw (success s k c Write count fields ok, answer_outcome, own s k c r.home r (drop 2 fields) (ap row f) refl, v, values_long 0 (drop 2 fields) r.home l, f, a.number, ← t.1)
+      rw (success s k c Write count fields ok, own s k c r.home r (drop 2 fields) (ap row f) refl, v, values_long 0 (drop 2 fields) r.home l, f, a.number, ← t.1)
 
 -- 1 reads the connection
 first : ((row 1).read ≡ true) × (is_connection (row 1).home ≡ true)
@@ -158,14 +154,14 @@ read_by_law t Factory r e g = rw (g, e, g)
 read_by_law t Nowhere r e g = rw (g, e, g)
 
 -- a read that follows a write answers the same numbers
-pub read_back : (s : Settings) (k : Calling) (c : Connection) (count : ℕ) (fields : List ℕ) (count' : ℕ) (fields' : List ℕ) → wrong s k c Write count fields ≡ fault.Nothing → wrong s k c Read count' fields' ≡ fault.Nothing → get_or fields' 0 0 ≡ read_by (row (get_or fields 0 0)) → answer_of (commanded (commanded s k c Write count fields).stored.settings (commanded s k c Write count fields).stored.calling (commanded s k c Write count fields).stored.connection Read count' fields') ≡ answer_of (commanded s k c Write count fields)
+pub read_back : (s : Settings) (k : Calling) (c : Connection) (count : ℕ) (fields : List ℕ) (count' : ℕ) (fields' : List ℕ) → wrong s k c Write count fields ≡ Ok tt → wrong s k c Read count' fields' ≡ Ok tt → get_or fields' 0 0 ≡ read_by (row (get_or fields 0 0)) → answer_of (commanded (commanded s k c Write count fields).stored.settings (commanded s k c Write count fields).stored.calling (commanded s k c Write count fields).stored.connection Read count' fields') ≡ answer_of (commanded s k c Write count fields)
 read_back s k c count fields count' fields' ok ok' e =
     let id = get_or fields 0 0 in
     let r = row id in
     let a = accepted Write r count fields (judged _ (together Write (obey s k c Write r (drop 2 fields)).settings) ok).0 in
     let f = found id (defined Write id a.n a.takes) in
     let t = store s k c r.home r.number (drop 2 fields) in
-    rw (success s k c Write count fields ok, success t.settings t.calling t.connection Read count' fields' ok', answer_outcome, answer_outcome, e, read_by_law t r.home r (ap row f) refl)
+    rw (success s k c Write count fields ok, success t.settings t.calling t.connection Read count' fields' ok', e, read_by_law t r.home r (ap row f) refl)
 
 -- and whatever can be written, 250 aside, can be read
 pub readable : (id : ℕ) → (row id).written ≡ true → ((row id).home ≡ Factory → ⊥) → (row (read_by (row id))).read ≡ true
@@ -189,11 +185,11 @@ readable id w h = go (row id).home refl
     go Nowhere e = absurd (false≢true (fits Nowhere e))
 
 -- by its id and 0
-pub read_passes : (s : Settings) (k : Calling) (c : Connection) (fields : List ℕ) → (row (get_or fields 0 0)).read ≡ true → get_or fields 1 0 ≡ 0 → wrong s k c Read 2 fields ≡ fault.Nothing
+pub read_passes : (s : Settings) (k : Calling) (c : Connection) (fields : List ℕ) → (row (get_or fields 0 0)).read ≡ true → get_or fields 1 0 ≡ 0 → wrong s k c Read 2 fields ≡ Ok tt
 read_passes s k c fields t n = rw (t, n)
 
 -- 250 gives the factory settings and the factory's calling, turns the motor off, and keeps the connection
-pub reset : (s : Settings) (k : Calling) (c : Connection) (count : ℕ) (fields : List ℕ) → wrong s k c Write count fields ≡ fault.Nothing → get_or fields 0 0 ≡ 250 → (commanded s k c Write count fields).stored ≡ recalled factory factory_calling c
+pub reset : (s : Settings) (k : Calling) (c : Connection) (count : ℕ) (fields : List ℕ) → wrong s k c Write count fields ≡ Ok tt → get_or fields 0 0 ≡ 250 → (commanded s k c Write count fields).stored ≡ recalled factory factory_calling c
 unfolding row
 reset s k c count fields ok e = rw (success s k c Write count fields ok, e)
 
@@ -246,7 +242,7 @@ module _ (s : Settings) (k : Calling) (c : Connection) (h : Sound s k c) where
   store_sound r Nowhere ps e f t l i d = h
 
   -- what a command without error leaves
-  pub obey_sound : (v : Verb) (t : Takes) (id : ℕ) (fields : List ℕ) → length fields ≡ 11 → ((row id).home ≡ Nowhere → ⊥) → Accepted t v (row id) fields → together v (obey s k c v (row id) (drop 2 fields)).settings ≡ true
+  pub obey_sound : (v : Verb) (t : Option ℕ) (id : ℕ) (fields : List ℕ) → length fields ≡ 11 → ((row id).home ≡ Nowhere → ⊥) → Accepted t v (row id) fields → together v (obey s k c v (row id) (drop 2 fields)).settings ≡ true
       → Sound (obey s k c v (row id) (drop 2 fields)).settings (obey s k c v (row id) (drop 2 fields)).calling (obey s k c v (row id) (drop 2 fields)).connection
   obey_sound Write t id fields l d a i = store_sound (row id) (row id).home (drop 2 fields) (ap row (found id d)) refl (row_fits id) (rw (length-drop, l)) a.inside i
   obey_sound Read t id fields l d a i = h
@@ -257,17 +253,13 @@ module _ (s : Settings) (k : Calling) (c : Connection) (h : Sound s k c) where
   unfolding commanded
   stays v count fields l = go (wrong s k c v count fields) refl
     where
-      go : (f : Fault) → wrong s k c v count fields ≡ f → Sound (answered f s k c v (row (get_or fields 0 0)) fields).stored.settings (answered f s k c v (row (get_or fields 0 0)) fields).stored.calling (answered f s k c v (row (get_or fields 0 0)) fields).stored.connection
-      go fault.Nothing e =
+      go : (f : Result (Unit {0}) Fault) → wrong s k c v count fields ≡ f → Sound (answered f s k c v (row (get_or fields 0 0)) fields).stored.settings (answered f s k c v (row (get_or fields 0 0)) fields).stored.calling (answered f s k c v (row (get_or fields 0 0)) fields).stored.connection
+      go (Ok u) e =
           let i = get_or fields 0 0 in
           let j = judged (fault_of v (row i) count fields) (together v (obey s k c v (row i) (drop 2 fields)).settings) e in
           let a = accepted v (row i) count fields j.0 in
           obey_sound v _ i fields l (defined v i a.n a.takes) a j.1
-      go fault.Type e = h
-      go fault.Id e = h
-      go fault.Parameters e = h
-      go fault.Checksum e = h
-      go fault.Range e = h
+      go (Err f) e = h
 
 -- What does not write a connection keeps it; what forgets nothing keeps how a station is called too.
 
@@ -297,13 +289,9 @@ module _ (s : Settings) (k : Calling) (c : Connection) where
       obeyed Read = a s
       obeyed Other = a s
 
-      go : (f : Fault) → P (answered f s k c v (row (get_or fields 0 0)) fields).stored
-      go fault.Nothing = obeyed v
-      go fault.Type = a s
-      go fault.Id = a s
-      go fault.Parameters = a s
-      go fault.Checksum = a s
-      go fault.Range = a s
+      go : (f : Result (Unit {0}) Fault) → P (answered f s k c v (row (get_or fields 0 0)) fields).stored
+      go (Ok u) = obeyed v
+      go (Err f) = a s
 
   -- no other command touches the connection
   pub commanded_keeps : (v : Verb) (count : ℕ) (fields : List ℕ) → Keeps c (commanded s k c v count fields).stored

@@ -1,9 +1,8 @@
 -- What a finished command does and answers: its fields are the id, the number of parameters, the parameters and, if one more
 -- stands there, a checksum.
-use Rattle.std.specs.Prelude.{ℕ, ◌+◌, ◌-◌, ◌%◌, Bool, true, false, cond, ◌&&◌, ◌||◌, List, [], ◌∷◌, ◌++◌, eqb, length, get_or, take, drop, set, replicate}
+use Rattle.std.specs.Prelude.{ℕ, ◌+◌, ◌%◌, Bool, true, false, cond, ◌&&◌, ◌||◌, List, [], ◌∷◌, eqb, length, get_or, take, drop, set, Option, Some, None, Result, Ok, Err}
 use Rattle.word.specs.Word.{unpacked, packed}
-use Rattle.settings.specs.Names.{Verb, Write, Read, Other, Settings, Calling, Connection, Home, Version, Linked, Unlinked, Value, String, Power, Signal, Factory, Nowhere, Row, Takes, Count, Fault, Stored, Outcome}
-use Rattle.settings.specs.Names.takes
+use Rattle.settings.specs.Names.{Verb, Write, Read, Other, Settings, Calling, Connection, Home, Version, Linked, Unlinked, Value, String, Power, Signal, Factory, Nowhere, Row, Fault, Stored, Outcome}
 use Rattle.settings.specs.Names.fault
 use Rattle.settings.specs.Table.{in_range, row, is_connection, taken_by, factory, factory_calling, sound_stand_in}
 
@@ -29,16 +28,16 @@ ranged Read r fields = true
 ranged Other r fields = true
 
 -- of a command whose id takes so many parameters: those first, then the checksum, then the range
-abbrev pub fault_in : Takes → Verb → Row → ℕ → List ℕ → Fault
-fault_in takes.Nothing v r count fields = fault.Id
-fault_in (Count n) v r count fields =
+abbrev pub fault_in : Option ℕ → Verb → Row → ℕ → List ℕ → Result (Unit {0}) Fault
+fault_in None v r count fields = Err fault.Id
+fault_in (Some n) v r count fields =
     cond (fitting n count fields)
-    (cond (checked n count fields) (cond (ranged v r fields) fault.Nothing fault.Range) fault.Checksum)
-    fault.Parameters
+    (cond (checked n count fields) (cond (ranged v r fields) (Ok tt) (Err fault.Range)) (Err fault.Checksum))
+    (Err fault.Parameters)
 
 -- type first, then id
-abbrev pub fault_of : Verb → Row → ℕ → List ℕ → Fault
-fault_of Other r count fields = fault.Type
+abbrev pub fault_of : Verb → Row → ℕ → List ℕ → Result (Unit {0}) Fault
+fault_of Other r count fields = Err fault.Type
 fault_of Write r count fields = fault_in (taken_by Write r) Write r count fields
 fault_of Read r count fields = fault_in (taken_by Read r) Read r count fields
 
@@ -49,17 +48,12 @@ together Read next = true
 together Other next = true
 
 -- where nothing else is wrong, a value is out of range that does not go together with the settings
-abbrev pub jointly : Fault → Bool → Fault
-jointly fault.Nothing ok = cond ok fault.Nothing fault.Range
-jointly fault.Type ok = fault.Type
-jointly fault.Id ok = fault.Id
-jointly fault.Parameters ok = fault.Parameters
-jointly fault.Checksum ok = fault.Checksum
-jointly fault.Range ok = fault.Range
+abbrev pub jointly : Result (Unit {0}) Fault → Bool → Result (Unit {0}) Fault
+jointly (Ok _) ok = cond ok (Ok tt) (Err fault.Range)
+jointly (Err f) ok = Err f
 
 -- the numbers of the errors
 abbrev pub number_of : Fault → ℕ
-number_of fault.Nothing = 0
 number_of fault.Type = 1
 number_of fault.Id = 2
 number_of fault.Parameters = 3
@@ -149,7 +143,7 @@ reading t r = numbers_at t.settings t.calling t.connection (answering t.connecti
 
 -- what is stored, and an answer
 abbrev pub outcome : Stored → List ℕ → Outcome
-outcome t ns = record { stored = t; numbers = ns ++ replicate (10 - length ns) 0; count = length ns }
+outcome t ns = record { stored = t; numbers = ns }
 
 -- without error
 abbrev pub succeeded : Settings → Calling → Connection → Verb → Row → List ℕ → Outcome
@@ -160,16 +154,12 @@ abbrev pub refused : Settings → Calling → Connection → ℕ → Fault → O
 refused s k c id f = outcome (kept s k c) (255 ∷ 2 ∷ id ∷ number_of f ∷ [])
 
 -- by what is wrong
-abbrev pub answered : Fault → Settings → Calling → Connection → Verb → Row → List ℕ → Outcome
-answered fault.Nothing s k c v r fields = succeeded s k c v r fields
-answered fault.Type s k c v r fields = refused s k c (get_or fields 0 0) fault.Type
-answered fault.Id s k c v r fields = refused s k c (get_or fields 0 0) fault.Id
-answered fault.Parameters s k c v r fields = refused s k c (get_or fields 0 0) fault.Parameters
-answered fault.Checksum s k c v r fields = refused s k c (get_or fields 0 0) fault.Checksum
-answered fault.Range s k c v r fields = refused s k c (get_or fields 0 0) fault.Range
+abbrev pub answered : Result (Unit {0}) Fault → Settings → Calling → Connection → Verb → Row → List ℕ → Outcome
+answered (Ok _) s k c v r fields = succeeded s k c v r fields
+answered (Err f) s k c v r fields = refused s k c (get_or fields 0 0) f
 
 -- what is wrong with a command of `count` fields, of which the first is the id
-abbrev pub wrong : Settings → Calling → Connection → Verb → ℕ → List ℕ → Fault
+abbrev pub wrong : Settings → Calling → Connection → Verb → ℕ → List ℕ → Result (Unit {0}) Fault
 wrong s k c v count fields = let r = row (get_or fields 0 0) in jointly (fault_of v r count fields) (together v (obey s k c v r (drop 2 fields)).settings)
 
 -- a finished command

@@ -1,5 +1,5 @@
 -- What the laws of the settings speak of.
-use Rattle.std.specs.Prelude.{ℕ, ◌≤◌, ◌≡◌, true, false, cond, List, length, take}
+use Rattle.std.specs.Prelude.{ℕ, ◌≤◌, ◌≡◌, true, false, cond, List, length}
 use Rattle.message.specs.Message.{framed}
 use Rattle.message.specs.Find.{AllBytes, Counted}
 use Rattle.settings.specs.Names.{Settings, Calling, Connection, Row, Stored, Outcome}
@@ -7,7 +7,7 @@ use Rattle.settings.specs.Table.{is_connection, sound_settings, sound_calling, s
 
 -- the numbers that an outcome answers
 abbrev pub answer_of : Outcome → List ℕ
-answer_of o = take o.count o.numbers
+answer_of o = o.numbers
 
 -- the id under which what was written is read: 1 gives any connection
 abbrev pub read_by : Row → ℕ
@@ -32,5 +32,5 @@ pub record Sendable (ns : List ℕ) : Type 0 where
 
 -- at most ten numbers, and at most 37 bytes as a message
 pub record Short (o : Outcome) : Type 0 where
-  pub few : o.count ≤ 10
+  pub few : length (answer_of o) ≤ 10
   pub short : length (framed (answer_of o)) ≤ 37

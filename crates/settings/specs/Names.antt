@@ -9,9 +9,6 @@ pub use Rattle.settings.specs.declared.Connection.{Connection}
 pub use Rattle.settings.specs.declared.Home.{Home}
 pub use Rattle.settings.specs.declared.Home.TheVariants.{Version, Linked, Unlinked, Value, String, Power, Signal, Factory, Nowhere}
 pub use Rattle.settings.specs.declared.Row.{Row}
-pub use Rattle.settings.specs.declared.Takes.{Takes}
-pub use Rattle.settings.specs.declared.Takes.TheVariants.{Count}
-pub use Rattle.settings.specs.declared.Takes.TheVariants as takes
 pub use Rattle.settings.specs.declared.Fault.{Fault}
 pub use Rattle.settings.specs.declared.Fault.TheVariants as fault
 pub use Rattle.settings.specs.declared.Stored.{Stored}

@@ -1,9 +1,9 @@
 -- The table of ids: parameters, ranges and factory values.
-use Rattle.std.specs.Prelude.{ℕ, suc, Bool, true, false, cond, ◌&&◌, ◌||◌, List, [], ◌∷◌, eqb, leb, length, get_or, take}
+use Rattle.std.specs.Prelude.{ℕ, suc, Bool, true, false, cond, ◌&&◌, ◌||◌, List, [], ◌∷◌, eqb, leb, length, get_or, take, Some, None}
+use Rattle.std.specs.Prelude.{Option as Maybe}
 use Rattle.code.specs.Convert.{conversion}
 use Rattle.word.specs.Word.{all_below, unpacked, packed, is_word}
-use Rattle.settings.specs.Names.{Conversion, Nothing, Free, Cased, Verb, Write, Read, Other, Settings, Calling, Connection, Home, Version, Linked, Unlinked, Value, String, Power, Signal, Factory, Nowhere, Row, Takes, Count}
-use Rattle.settings.specs.Names.takes
+use Rattle.settings.specs.Names.{Conversion, Nothing, Free, Cased, Verb, Write, Read, Other, Settings, Calling, Connection, Home, Version, Linked, Unlinked, Value, String, Power, Signal, Factory, Nowhere, Row}
 
 -- Ranges of the parameters.
 
@@ -161,15 +161,15 @@ width Factory = 0
 width Nowhere = 0
 
 -- so many parameters, if the command can be given at all
-abbrev pub takes_if : Bool → ℕ → Takes
-takes_if true n = Count n
-takes_if false n = takes.Nothing
+abbrev pub takes_if : Bool → ℕ → Maybe ℕ
+takes_if true n = Some n
+takes_if false n = None
 
 -- how many parameters a command of this type has: a write all values, a read none
-abbrev pub taken_by : Verb → Row → Takes
+abbrev pub taken_by : Verb → Row → Maybe ℕ
 taken_by Write r = takes_if r.written (width r.home)
 taken_by Read r = takes_if r.read 0
-taken_by Other r = takes.Nothing
+taken_by Other r = None
 
 -- Factory settings.
 

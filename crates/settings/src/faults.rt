@@ -1,178 +1,137 @@
 // What is wrong with a command: the first error that applies.
-ghost use Rattle.std.specs.Prelude.{◌≡◌, ◌%◌, [], ◌∷◌, get_or, take, drop};
-ghost use Rattle.word.specs.Word.{bytes_of};
+ghost use Rattle.std.specs.Prelude.{◌≡◌, ◌%◌, get_or, take, drop};
 ghost use Rattle.settings.specs.Command.{sum, checked, fitting, ranged, fault_in, fault_of, together, jointly, number_of, obey};
-ghost use Rattle.settings.specs.Names.{Calling as Names-as-Calling, Connection as Names-as-Connection};
 
 use crate::sound::is_stand_in;
-use crate::store::stored_stand_in;
-use crate::table::{in_range, taken_by};
-use crate::{Fault, Row, Settings, Takes};
+use crate::{Fault, Row, Setup};
 use command::Verb;
 
-// The field at a place; 0 where there is none.
-fn field_at(fields: [u8; 11], i: usize) -> u8
-    ensures { result ≡ get_or fields i 0 }
-{
-    if i < 11 { fields[i] } else { 0 }
+// A finished command: its type, the row of its id, how many fields it has, and the fields: the id, the number of parameters, the
+// parameters and, if one more stands there, a checksum.
+#[derive(Clone, Copy)]
+pub struct Command {
+    pub verb: Verb,
+    pub row: Row,
+    pub count: u8,
+    pub fields: [u8; 11],
 }
 
-// The sum of the first n fields, modulo 256.
-fn checksum(fields: [u8; 11], n: usize) -> u8
-    ensures { result ≡ sum (take n fields) % 256 }
-{
-    let mut total: u16 = 0;
-    let mut i = 0;
-    while i < n {
-        let field = field_at(fields, i) as u16;
-        total = (total + field) % 256;
-        i += 1;
+impl Command {
+    // The field at a place; 0 where there is none.
+    fn field(self, place: usize) -> u8
+        ensures { result ≡ get_or self.fields place 0 }
+    {
+        self.fields.get(place).copied().unwrap_or(0)
     }
-    total as u8
-}
 
-// Whether there is no checksum after n parameters, or the right one.
-fn is_checked(n: u8, count: u8, fields: [u8; 11]) -> bool
-    ensures { result ≡ checked n count fields }
-{
-    let k = n as usize + 2;
-    if count as usize == k {
-        return true;
+    // The sum of the first n fields, modulo 256.
+    fn checksum(self, n: usize) -> u8
+        ensures { result ≡ sum (take n self.fields) % 256 }
+    {
+        self.fields
+            .iter()
+            .take(n)
+            .fold(0, |total: u8, field| total.wrapping_add(*field))
     }
-    checksum(fields, k) == field_at(fields, k)
-}
 
-// Whether the number field is n, and the parameters are that many or one more.
-fn is_fitting(n: u8, count: u8, fields: [u8; 11]) -> bool
-    ensures { result ≡ fitting n count fields }
-{
-    let k = n as usize;
-    let c = count as usize;
-    (fields[1] == n) & ((c == k + 2) | (c == k + 3))
-}
+    // Whether there is no checksum after n parameters, or the right one.
+    fn is_checked(self, n: u8) -> bool
+        ensures { result ≡ checked n self.count self.fields }
+    {
+        let k = n as usize + 2;
+        self.count as usize == k || self.checksum(k) == self.field(k)
+    }
 
-// The number that has these eight bytes, the first one lowest.
-fn from_bytes(a: u8, b: u8, c: u8, d: u8, e: u8, f: u8, g: u8, h: u8) -> u64
-    ensures { bytes_of result ≡ a ∷ b ∷ c ∷ d ∷ e ∷ f ∷ g ∷ h ∷ [] }
-{
-    let low = a as u64 + 256 * (b as u64) + 65536 * (c as u64) + 16777216 * (d as u64);
-    let high = e as u64 + 256 * (f as u64) + 65536 * (g as u64) + 16777216 * (h as u64);
-    low + 4294967296 * high
-}
+    // Whether the number field is n, and the parameters are that many or one more.
+    fn is_fitting(self, n: u8) -> bool
+        ensures { result ≡ fitting n self.count self.fields }
+    {
+        let k = n as usize;
+        let c = self.count as usize;
+        (self.fields[1] == n) & ((c == k + 2) | (c == k + 3))
+    }
 
-// The first eight parameters in one number.
-fn eight_in_one(fields: [u8; 11]) -> u64
-    ensures { bytes_of result ≡ take 8 (drop 2 fields) }
-{
-    from_bytes(
-        fields[2], fields[3], fields[4], fields[5], fields[6], fields[7], fields[8], fields[9],
-    )
-}
+    // The parameters, and what follows them.
+    pub fn parameters(self) -> [u8; 9]
+        ensures { result ≡ drop 2 self.fields }
+    {
+        let [_, _, a, b, c, d, e, f, g, h, last] = self.fields;
+        [a, b, c, d, e, f, g, h, last]
+    }
 
-// The parameters, and what follows them. Eight go by one number: what is looked at place by place is kept in a register for each, and the
-// command reader, compiled into the same loop, would carry eleven.
-pub fn parameters(fields: [u8; 11]) -> [u8; 9]
-    ensures { result ≡ drop 2 fields }
-{
-    let a = eight_in_one(fields);
-    let b = a / 256;
-    let c = b / 256;
-    let d = c / 256;
-    let e = d / 256;
-    let f = e / 256;
-    let g = f / 256;
-    let h = g / 256;
-    [
-        (a % 256) as u8,
-        (b % 256) as u8,
-        (c % 256) as u8,
-        (d % 256) as u8,
-        (e % 256) as u8,
-        (f % 256) as u8,
-        (g % 256) as u8,
-        (h % 256) as u8,
-        fields[10],
-    ]
-}
+    // Whether the values are in their range.
+    fn is_ranged(self) -> bool
+        ensures { result ≡ ranged self.verb self.row self.fields }
+    {
+        match self.verb {
+            Verb::Write => self.row.home.in_range(self.parameters()),
+            Verb::Read | Verb::Other => true,
+        }
+    }
 
-// Whether the values are in their range.
-fn is_ranged(v: Verb, r: Row, fields: [u8; 11]) -> bool
-    ensures { result ≡ ranged v r fields }
-{
-    let home = r.home;
-    match v {
-        Verb::Write => in_range(home, parameters(fields)),
-        Verb::Read => true,
-        Verb::Other => true,
+    // What is wrong with a command whose id takes so many parameters.
+    fn fault_in(self, taken: Option<u8>) -> Result<(), Fault>
+        ensures { result ≡ fault_in taken self.verb self.row self.count self.fields }
+    {
+        let n = taken.ok_or(Fault::Id)?;
+        if !self.is_fitting(n) {
+            return Err(Fault::Parameters);
+        }
+        if !self.is_checked(n) {
+            return Err(Fault::Checksum);
+        }
+        if !self.is_ranged() {
+            return Err(Fault::Range);
+        }
+        Ok(())
+    }
+
+    // What is wrong with a command.
+    fn fault(self) -> Result<(), Fault>
+        ensures { result ≡ fault_of self.verb self.row self.count self.fields }
+    {
+        if let Verb::Other = self.verb {
+            return Err(Fault::Type);
+        }
+        self.fault_in(self.row.taken_by(self.verb))
     }
 }
 
-// What is wrong with a command whose id takes so many parameters.
-fn fault_in(taken: Takes, v: Verb, r: Row, count: u8, fields: [u8; 11]) -> Fault
-    ensures { result ≡ fault_in taken v r count fields }
-{
-    match taken {
-        Takes::Nothing => Fault::Id,
-        Takes::Count(n) => {
-            let fits = is_fitting(n, count, fields);
-            let checks = is_checked(n, count, fields);
-            let ranges = is_ranged(v, r, fields);
-            if !fits {
-                return Fault::Parameters;
-            }
-            if !checks {
-                return Fault::Checksum;
-            }
-            if !ranges {
-                return Fault::Range;
-            }
-            Fault::Nothing
+impl Setup {
+    // Whether what a command would store goes together.
+    fn goes_together(self, command: Command) -> bool
+        ensures { result ≡ together command.verb (obey self.settings self.calling self.connection command.verb command.row (drop 2 command.fields)).settings }
+    {
+        match command.verb {
+            Verb::Write => is_stand_in(self.stored_stand_in(command)),
+            Verb::Read | Verb::Other => true,
+        }
+    }
+
+    // What is wrong with a command, where a value also has to go together with the settings.
+    pub fn check(self, command: Command) -> Result<(), Fault>
+        ensures { result ≡ jointly (fault_of command.verb command.row command.count command.fields) (together command.verb (obey self.settings self.calling self.connection command.verb command.row (drop 2 command.fields)).settings) }
+    {
+        command.fault()?;
+        if self.goes_together(command) {
+            Ok(())
+        } else {
+            Err(Fault::Range)
         }
     }
 }
 
-// What is wrong with a command.
-pub fn fault_of(v: Verb, r: Row, count: u8, fields: [u8; 11]) -> Fault
-    ensures { result ≡ fault_of v r count fields }
-{
-    if let Verb::Other = v {
-        return Fault::Type;
-    }
-    fault_in(taken_by(v, r), v, r, count, fields)
-}
-
-// Whether what a command would store goes together.
-pub fn goes_together(s: Settings, v: Verb, r: Row, ps: [u8; 9]) -> bool
-    ensures { (k : Names-as-Calling) (c : Names-as-Connection) → result ≡ together v (obey s k c v r ps).settings }
-{
-    let home = r.home;
-    match v {
-        Verb::Write => is_stand_in(stored_stand_in(s, home, ps[0])),
-        Verb::Read => true,
-        Verb::Other => true,
-    }
-}
-
-// What is wrong, where a value also has to go together with the settings.
-pub fn jointly(f: Fault, ok: bool) -> Fault
-    ensures { result ≡ jointly f ok }
-{
-    if let Fault::Nothing = f {
-        return if ok { Fault::Nothing } else { Fault::Range };
-    }
-    f
-}
-
 // The number of an error.
-pub fn number_of(f: Fault) -> u8
-    ensures { result ≡ number_of f }
-{
-    match f {
-        Fault::Nothing => 0,
-        Fault::Type => 1,
-        Fault::Id => 2,
-        Fault::Parameters => 3,
-        Fault::Checksum => 4,
-        Fault::Range => 5,
+impl From<Fault> for u8 {
+    ghost from_gives = { λ f n. n ≡ number_of f };
+
+    fn from(f: Fault) -> u8 {
+        match f {
+            Fault::Type => 1,
+            Fault::Id => 2,
+            Fault::Parameters => 3,
+            Fault::Checksum => 4,
+            Fault::Range => 5,
+        }
     }
 }

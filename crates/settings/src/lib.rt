@@ -3,17 +3,16 @@
 
 ghost use Rattle.std.specs.Prelude.{◌≡◌, ◌&&◌};
 ghost use Rattle.settings.specs.Table.{factory, factory_calling, sound_settings, sound_calling, sound_connection};
-ghost use Rattle.settings.specs.Command.{succeeded, refused, commanded};
+ghost use Rattle.settings.specs.Command.{refused, succeeded, commanded};
 
-use answer::{read_out, two};
 use command::Verb;
-use faults::{fault_of, goes_together, jointly, number_of, parameters};
-use sound::{calling_sound, connection_sound, settings_sound};
-use store::{keep, obey};
+use faults::Command;
+use numbers::Numbers;
 use table::row;
 
 mod answer;
 mod faults;
+pub mod numbers;
 mod options;
 mod sound;
 mod store;
@@ -31,15 +30,25 @@ pub struct Settings {
 #[derive(Clone, Copy)]
 pub struct Calling {
     pub strings: [u64; 5],
+    // stays a number: a state may hold any byte here, and one that is no mode is handed back as it came (answer 3; `power` of spelling)
     pub power: u8,
 }
 
 // The connection: its mode, which is the id that writes it, and its port and speed, 0 where the mode has none.
 #[derive(Clone, Copy)]
 pub struct Connection {
+    // stays a number: a state may hold any byte here, and one that is no mode is handed back as it came (answer 3; `state_of` of spelling)
     pub mode: u8,
     pub port: u8,
     pub speed: u8,
+}
+
+// All that a command reads and writes: the settings, how a station is called, and the connection.
+#[derive(Clone, Copy)]
+pub struct Setup {
+    pub settings: Settings,
+    pub calling: Calling,
+    pub connection: Connection,
 }
 
 // Where the values of an id are, and their range: the version, a connection with a port up to the last and a speed or with neither, an
@@ -67,17 +76,9 @@ pub struct Row {
     pub read: bool,
 }
 
-// How many parameters an id takes, if the command's type has it.
-#[derive(Clone, Copy)]
-pub enum Takes {
-    Nothing,
-    Count(u8),
-}
-
-// What is wrong with a command: nothing, its type, its id, its number of parameters, its checksum, or a value.
-#[derive(Clone, Copy)]
+// What is wrong with a command: its type, its id, its number of parameters, its checksum, or a value.
+#[derive(Clone, Copy, Debug, PartialEq, Eq)]
 pub enum Fault {
-    Nothing,
     Type,
     Id,
     Parameters,
@@ -96,12 +97,11 @@ pub struct Stored {
     pub forgets: bool,
 }
 
-// What a command does, and the numbers of its answer, of which there are `count`; the places after them hold 0.
+// What a command does, and the numbers of its answer.
 #[derive(Clone, Copy)]
 pub struct Outcome {
     pub stored: Stored,
-    pub numbers: [u8; 10],
-    pub count: usize,
+    pub numbers: Numbers,
 }
 
 // The factory settings; the number is the word of 8, 8, 2, 31, 31 and three zeros.
@@ -125,37 +125,45 @@ pub fn factory_calling() -> Calling
     }
 }
 
-// Whether the settings, how a station is called, and the connection are sound.
-pub fn is_sound(s: Settings, k: Calling, c: Connection) -> bool
-    ensures { result ≡ (sound_settings s && (sound_connection c && sound_calling k)) }
-{
-    settings_sound(s) & (connection_sound(c) & calling_sound(k))
-}
-
-// An error: nothing changes, and its number is answered.
-fn refuse(s: Settings, k: Calling, c: Connection, id: u8, f: Fault) -> Outcome
-    ensures { result ≡ refused s k c id f }
-{
-    two(keep(s, k, c), 255, id, number_of(f))
-}
-
-// A command without error.
-fn succeed(s: Settings, k: Calling, c: Connection, v: Verb, r: Row, fields: [u8; 11]) -> Outcome
-    ensures { result ≡ succeeded s k c v r fields }
-{
-    read_out(obey(s, k, c, v, r, parameters(fields)), r)
-}
-
-// What a finished command of `count` fields does and answers.
-pub fn run(s: Settings, k: Calling, c: Connection, v: Verb, count: u8, fields: [u8; 11]) -> Outcome
-    ensures { result ≡ commanded s k c v count fields }
-{
-    let id = fields[0];
-    let r = row(id);
-    let ok = goes_together(s, v, r, parameters(fields));
-    let f = jointly(fault_of(v, r, count, fields), ok);
-    if let Fault::Nothing = f {
-        return succeed(s, k, c, v, r, fields);
+impl Setup {
+    // Whether the settings, how a station is called, and the connection are sound.
+    pub fn is_sound(self) -> bool
+        ensures { result ≡ (sound_settings self.settings && (sound_connection self.connection && sound_calling self.calling)) }
+    {
+        self.settings.is_sound() & (self.connection.is_sound() & self.calling.is_sound())
     }
-    refuse(s, k, c, id, f)
+
+    // An error: nothing changes, and its number is answered.
+    fn refuse(self, id: u8, fault: Fault) -> Outcome
+        ensures { result ≡ refused self.settings self.calling self.connection id fault }
+    {
+        Outcome {
+            stored: self.keep(),
+            numbers: Numbers::of(255, [id, u8::from(fault)]),
+        }
+    }
+
+    // A command without error.
+    fn succeed(self, command: Command) -> Outcome
+        ensures { result ≡ succeeded self.settings self.calling self.connection command.verb command.row command.fields }
+    {
+        self.obey(command).read_out(command.row)
+    }
+
+    // What a finished command of `count` fields does and answers.
+    pub fn run(self, verb: Verb, count: u8, fields: [u8; 11]) -> Outcome
+        ensures { result ≡ commanded self.settings self.calling self.connection verb count fields }
+    {
+        let id = fields[0];
+        let command = Command {
+            verb,
+            row: row(id),
+            count,
+            fields,
+        };
+        match self.check(command) {
+            Ok(()) => self.succeed(command),
+            Err(fault) => self.refuse(id, fault),
+        }
+    }
 }

@@ -6,59 +6,59 @@ use crate::Settings;
 
 impl Settings {
     // Option 49: line endings.
+    #[tactic(auto, unfolding(crate::specs::Options::endings))]
     pub fn endings(self) -> bool
         ensures { result ≡ endings self }
     {
-        let values = self.values;
-        values[0] == 1
+        self.values[0] == 1
     }
 
     // Option 50: their limit.
+    #[tactic(auto, unfolding(crate::specs::Options::limit))]
     pub fn limit(self) -> u8
         ensures { result ≡ limit self }
     {
-        let values = self.values;
-        values[1]
+        self.values[1]
     }
 
     // Option 70: unshift on space.
+    #[tactic(auto, unfolding(crate::specs::Options::onspace))]
     pub fn onspace(self) -> bool
         ensures { result ≡ onspace self }
     {
-        let values = self.values;
-        values[2] == 1
+        self.values[2] == 1
     }
 
     // Option 71: unshift on return.
+    #[tactic(auto, unfolding(crate::specs::Options::onreturn))]
     pub fn onreturn(self) -> bool
         ensures { result ≡ onreturn self }
     {
-        let values = self.values;
-        values[3] == 1
+        self.values[3] == 1
     }
 
     // Option 72: the filter of shifts.
+    #[tactic(auto, unfolding(crate::specs::Options::filter))]
     pub fn filter(self) -> bool
         ensures { result ≡ filter self }
     {
-        let values = self.values;
-        values[4] == 1
+        self.values[4] == 1
     }
 
     // Option 74: SI/SO reports.
+    #[tactic(auto, unfolding(crate::specs::Options::reports))]
     pub fn reports(self) -> bool
         ensures { result ≡ reports self }
     {
-        let values = self.values;
-        values[5] == 1
+        self.values[5] == 1
     }
 
     // Option 77: the stand-in for text bytes without a code, 0 where there is none.
+    #[tactic(auto, unfolding(crate::specs::Options::stand_in))]
     pub fn stand_in(self) -> u8
         ensures { result ≡ stand_in self }
     {
-        let values = self.values;
-        values[6]
+        self.values[6]
     }
 
     // String 90, the line ending, as a word.

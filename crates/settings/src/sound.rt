@@ -4,7 +4,7 @@ ghost use Rattle.code.specs.Convert.{conversion};
 ghost use Rattle.settings.specs.Table.{in_range, row, options, all_in, has_code, is_stand_in, sound_stand_in, sound_settings, all_signals, sound_calling, sound_link, sound_connection};
 
 use crate::string::{is_ending, is_signal};
-use crate::table::{in_range, is_between, is_link, is_power, row};
+use crate::table::{is_between, is_link, is_power, row};
 use crate::{Calling, Connection, Home, Settings};
 use code::Conversion;
 
@@ -13,103 +13,90 @@ use code::Conversion;
 fn option_sound(id: u8, value: u8) -> bool
     ensures { result ≡ in_range (row id).home (value ∷ replicate 8 0) }
 {
-    let r = row(id);
-    let home = r.home;
+    let home = row(id).home;
     if let Home::Value(_, low, high) = home {
         return is_between(low, high, value);
     }
-    in_range(home, [value, 0, 0, 0, 0, 0, 0, 0, 0])
-}
-
-// Whether each option's value is in its range.
-fn values_sound(s: Settings) -> bool
-    ensures { result ≡ all_in options s.values }
-{
-    let v = s.values;
-    let lines = option_sound(49, v[0]) & option_sound(50, v[1]);
-    let unshifts = option_sound(70, v[2]) & option_sound(71, v[3]);
-    let shifts = option_sound(72, v[4]) & option_sound(74, v[5]);
-    lines & (unshifts & (shifts & option_sound(77, v[6])))
+    home.in_range([value, 0, 0, 0, 0, 0, 0, 0, 0])
 }
 
 // Whether a byte has a code.
 fn has_code(b: u8) -> bool
     ensures { result ≡ has_code (conversion b) }
 {
-    match convert::convert(b) {
-        Conversion::Nothing => false,
-        Conversion::Free(_) => true,
-        Conversion::Cased(_, _) => true,
-    }
+    !matches!(convert::convert(b), Conversion::Nothing)
 }
 
 // Whether a value is 0, or from 33 on with a code.
 pub fn is_stand_in(b: u8) -> bool
     ensures { result ≡ is_stand_in b }
 {
-    if b == 0 {
-        return true;
-    }
-    if b < 33 {
-        return false;
-    }
-    has_code(b)
+    b == 0 || b >= 33 && has_code(b)
 }
 
-// Whether option 77 is such a value.
-fn stand_in_sound(s: Settings) -> bool
-    ensures { result ≡ sound_stand_in s }
-{
-    is_stand_in(s.stand_in())
-}
+impl Settings {
+    // Whether each option's value is in its range.
+    fn has_sound_values(self) -> bool
+        ensures { result ≡ all_in options self.values }
+    {
+        let v = self.values;
+        let lines = option_sound(49, v[0]) & option_sound(50, v[1]);
+        let unshifts = option_sound(70, v[2]) & option_sound(71, v[3]);
+        let shifts = option_sound(72, v[4]) & option_sound(74, v[5]);
+        lines & (unshifts & (shifts & option_sound(77, v[6])))
+    }
 
-// Whether the settings are in the table's ranges.
-pub fn settings_sound(s: Settings) -> bool
-    ensures { result ≡ sound_settings s }
-{
-    let string = s.string;
-    values_sound(s) & (stand_in_sound(s) & is_ending(string))
+    // Whether option 77 is a sound stand-in.
+    #[tactic(auto, unfolding(crate::specs::Table::sound_stand_in, crate::specs::Options::stand_in))]
+    fn has_sound_stand_in(self) -> bool
+        ensures { result ≡ sound_stand_in self }
+    {
+        is_stand_in(self.stand_in())
+    }
+
+    // Whether the settings are in the table's ranges.
+    #[tactic(auto, using(crate::proofs::Strings::word_string), unfolding(crate::specs::Table::sound_settings))]
+    pub fn is_sound(self) -> bool
+        ensures { result ≡ sound_settings self }
+    {
+        self.has_sound_values() & (self.has_sound_stand_in() & is_ending(self.string))
+    }
 }
 
 // Whether each of strings 91 to 95 is a word whose codes end at the first 0.
 fn all_signals(ns: [u64; 5]) -> bool
     ensures { result ≡ all_signals ns }
 {
-    let first = is_signal(ns[0]) & is_signal(ns[1]);
-    let second = is_signal(ns[2]) & is_signal(ns[3]);
-    first & (second & is_signal(ns[4]))
+    ns.iter().all(|n| is_signal(*n))
 }
 
-// Whether the motor power mode is in its range and the strings obey their rules.
-pub fn calling_sound(k: Calling) -> bool
-    ensures { result ≡ sound_calling k }
-{
-    let strings = k.strings;
-    is_power(k.power) & all_signals(strings)
-}
-
-// Whether port and speed are in a mode's range.
-fn link_sound(home: Home, port: u8, speed: u8) -> bool
-    ensures { result ≡ sound_link home port speed }
-{
-    match home {
-        Home::Version => false,
-        Home::Linked(last) => is_link(last, port, speed),
-        Home::Unlinked => (port == 0) & (speed == 0),
-        Home::Value(_, _, _) => false,
-        Home::String => false,
-        Home::Power => false,
-        Home::Signal(_) => false,
-        Home::Factory => false,
-        Home::Nowhere => false,
+impl Calling {
+    // Whether the motor power mode is in its range and the strings obey their rules.
+    #[tactic(auto, unfolding(crate::specs::Table::sound_calling))]
+    pub fn is_sound(self) -> bool
+        ensures { result ≡ sound_calling self }
+    {
+        is_power(self.power) & all_signals(self.strings)
     }
 }
 
-// Whether the connection is in the table's ranges.
-pub fn connection_sound(c: Connection) -> bool
-    ensures { result ≡ sound_connection c }
-{
-    let r = row(c.mode);
-    let home = r.home;
-    link_sound(home, c.port, c.speed)
+impl Connection {
+    // Whether port and speed are in a mode's range.
+    fn is_within(self, home: Home) -> bool
+        ensures { result ≡ sound_link home self.port self.speed }
+    {
+        match home {
+            Home::Linked(last) => is_link(last, self.port, self.speed),
+            Home::Unlinked => (self.port == 0) & (self.speed == 0),
+            _ => false,
+        }
+    }
+
+    // Whether the connection is in the table's ranges.
+    #[tactic(auto, unfolding(crate::specs::Table::sound_connection))]
+    pub fn is_sound(self) -> bool
+        ensures { result ≡ sound_connection self }
+    {
+        self.is_within(row(self.mode).home)
+    }
 }

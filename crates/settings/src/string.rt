@@ -7,14 +7,7 @@ ghost use Rattle.settings.specs.Table.{all_codes, padded, early, opens, sound_st
 fn all_codes(s: [u8; 8]) -> bool
     ensures { result ≡ all_codes s }
 {
-    let mut i = 0;
-    while i < 8 {
-        if s[i] > 31 {
-            return false;
-        }
-        i += 1;
-    }
-    true
+    s.iter().all(|c| *c < 32)
 }
 
 // Whether all after the first 0 are 0: nothing is left of the word there.
@@ -33,7 +26,7 @@ fn padded(n: u64) -> bool
 fn early(c: u8) -> bool
     ensures { result ≡ early c }
 {
-    (c == 2) | ((c == 27) | (c == 31))
+    matches!(c, 2 | 27 | 31)
 }
 
 // Whether there is an 8, and before the first only what may stand there.
@@ -49,41 +42,33 @@ fn opens(n: u64) -> bool
 }
 
 // Whether a number is a word whose codes end at the first 0.
+#[tactic(auto, unfolding(crate::specs::Table::is_signal))]
 pub fn is_signal(n: u64) -> bool
     ensures { result ≡ is_signal n }
 {
-    if !word::is_word(n) {
-        return false;
-    }
-    padded(n)
+    word::is_word(n) && padded(n)
 }
 
 // Whether a number is a word whose codes end at the first 0 and open as a line ending does.
+#[tactic(auto, unfolding(crate::specs::Table::is_signal))]
 pub fn is_ending(n: u64) -> bool
     ensures { result ≡ (is_word n && (padded (unpacked n) && opens (unpacked n))) }
 {
-    if !is_signal(n) {
-        return false;
-    }
-    opens(n)
+    is_signal(n) && opens(n)
 }
 
 // Whether eight numbers are codes that obey the rules of string 90.
+#[tactic(auto, using(crate::proofs::Strings::string_word), unfolding(crate::specs::Table::sound_string))]
 pub fn sound_string(s: [u8; 8]) -> bool
     ensures { result ≡ sound_string s }
 {
-    if !all_codes(s) {
-        return false;
-    }
-    is_ending(word::pack(s))
+    all_codes(s) && is_ending(word::pack(s))
 }
 
 // Whether eight numbers are codes that obey the rules of strings 91 to 95.
+#[tactic(auto, using(crate::proofs::Strings::signal_word), unfolding(crate::specs::Table::sound_signal))]
 pub fn sound_signal(s: [u8; 8]) -> bool
     ensures { result ≡ sound_signal s }
 {
-    if !all_codes(s) {
-        return false;
-    }
-    is_signal(word::pack(s))
+    all_codes(s) && is_signal(word::pack(s))
 }

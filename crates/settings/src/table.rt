@@ -1,10 +1,10 @@
 // The table of ids in code, and the ranges of values.
 ghost use Rattle.std.specs.Prelude.{◌≡◌, true, [], ◌∷◌, take};
 ghost use Rattle.settings.specs.Names.{Linked, Value, Signal};
-ghost use Rattle.settings.specs.Table.{between, is_speed, is_power, in_range, row, is_connection, width, takes_if, taken_by};
+ghost use Rattle.settings.specs.Table.{between, is_speed, is_power, in_range, row, is_connection, width, taken_by};
 
 use crate::string::{sound_signal, sound_string};
-use crate::{Home, Row, Takes};
+use crate::{Home, Row};
 use command::Verb;
 
 // A row.
@@ -34,6 +34,7 @@ fn signal(number: u8, place: u8) -> Row
 }
 
 // The row of an id.
+#[tactic(auto, unfolding(crate::specs::Table::row))]
 pub fn row(id: u8) -> Row
     ensures { result ≡ row id }
 {
@@ -62,59 +63,6 @@ pub fn row(id: u8) -> Row
     }
 }
 
-// Whether an id names the connection.
-pub fn is_connection(home: Home) -> bool
-    ensures { result ≡ is_connection home }
-{
-    match home {
-        Home::Version => false,
-        Home::Linked(_) => true,
-        Home::Unlinked => true,
-        Home::Value(_, _, _) => false,
-        Home::String => false,
-        Home::Power => false,
-        Home::Signal(_) => false,
-        Home::Factory => false,
-        Home::Nowhere => false,
-    }
-}
-
-// How many values an id has.
-pub fn width(home: Home) -> u8
-    ensures { result ≡ width home }
-{
-    match home {
-        Home::Version => 4,
-        Home::Linked(_) => 2,
-        Home::Unlinked => 0,
-        Home::Value(_, _, _) => 1,
-        Home::String => 8,
-        Home::Power => 1,
-        Home::Signal(_) => 8,
-        Home::Factory => 0,
-        Home::Nowhere => 0,
-    }
-}
-
-// So many, if it can be done at all.
-fn takes_if(can: bool, n: u8) -> Takes
-    ensures { result ≡ takes_if can n }
-{
-    if can { Takes::Count(n) } else { Takes::Nothing }
-}
-
-// How many parameters a command of this type has.
-pub fn taken_by(v: Verb, r: Row) -> Takes
-    ensures { result ≡ taken_by v r }
-{
-    let home = r.home;
-    match v {
-        Verb::Write => takes_if(r.written, width(home)),
-        Verb::Read => takes_if(r.read, 0),
-        Verb::Other => Takes::Nothing,
-    }
-}
-
 // Whether a number lies in a range.
 pub fn is_between(low: u8, high: u8, n: u8) -> bool
     ensures { result ≡ between low high n }
@@ -126,14 +74,14 @@ pub fn is_between(low: u8, high: u8, n: u8) -> bool
 fn is_speed(n: u8) -> bool
     ensures { result ≡ is_speed n }
 {
-    (n == 60) | ((n == 66) | ((n == 75) | (n == 100)))
+    matches!(n, 60 | 66 | 75 | 100)
 }
 
 // Whether a number is a motor power mode.
 pub fn is_power(n: u8) -> bool
     ensures { result ≡ is_power n }
 {
-    (n == 0) | ((n == 2) | ((4 <= n) & (n <= 6)))
+    matches!(n, 0 | 2 | 4..=6)
 }
 
 // Whether two numbers are a port, from 1 to the last, and a speed.
@@ -147,24 +95,56 @@ pub fn is_link(last: u8, port: u8, speed: u8) -> bool
 pub fn first_eight(ps: [u8; 9]) -> [u8; 8]
     ensures { result ≡ take 8 ps }
 {
-    [ps[0], ps[1], ps[2], ps[3], ps[4], ps[5], ps[6], ps[7]]
+    let [a, b, c, d, e, f, g, h, _] = ps;
+    [a, b, c, d, e, f, g, h]
 }
 
-// Whether the parameters of an id are in its range.
-pub fn in_range(home: Home, ps: [u8; 9]) -> bool
-    ensures { result ≡ in_range home ps }
-{
-    let first = ps[0];
-    let second = ps[1];
-    match home {
-        Home::Version => true,
-        Home::Linked(last) => is_link(last, first, second),
-        Home::Unlinked => true,
-        Home::Value(_, low, high) => is_between(low, high, first),
-        Home::String => sound_string(first_eight(ps)),
-        Home::Power => is_power(first),
-        Home::Signal(_) => sound_signal(first_eight(ps)),
-        Home::Factory => true,
-        Home::Nowhere => true,
+impl Home {
+    // Whether an id names the connection.
+    pub fn is_connection(self) -> bool
+        ensures { result ≡ is_connection self }
+    {
+        matches!(self, Home::Linked(_) | Home::Unlinked)
+    }
+
+    // How many values an id has.
+    pub fn width(self) -> u8
+        ensures { result ≡ width self }
+    {
+        match self {
+            Home::Version => 4,
+            Home::Linked(_) => 2,
+            Home::Value(_, _, _) | Home::Power => 1,
+            Home::String | Home::Signal(_) => 8,
+            Home::Unlinked | Home::Factory | Home::Nowhere => 0,
+        }
+    }
+
+    // Whether the parameters of an id are in its range.
+    pub fn in_range(self, ps: [u8; 9]) -> bool
+        ensures { result ≡ in_range self ps }
+    {
+        let first = ps[0];
+        match self {
+            Home::Linked(last) => is_link(last, first, ps[1]),
+            Home::Value(_, low, high) => is_between(low, high, first),
+            Home::String => sound_string(first_eight(ps)),
+            Home::Power => is_power(first),
+            Home::Signal(_) => sound_signal(first_eight(ps)),
+            Home::Version | Home::Unlinked | Home::Factory | Home::Nowhere => true,
+        }
+    }
+}
+
+impl Row {
+    // How many parameters a command of this type has, if it can be given.
+    pub fn taken_by(self, v: Verb) -> Option<u8>
+        ensures { result ≡ taken_by v self }
+    {
+        match v {
+            Verb::Write => self.written.then_some(self.home.width()),
+            Verb::Read => self.read.then_some(0),
+            Verb::Other => None,
+        }
     }
 }
