@@ -12,15 +12,14 @@ use lib.ListN.{length, drop}
 use Rattle.laws.proofs.Both.{both}
 use Rattle.message.specs.declared.Scan.{Scan}
 use Rattle.message.specs.declared.Scan.TheVariants.{Bad, Opening, Comma, In}
-use Rattle.message.specs.declared.Numbers.TheVariants.{Nothing, Bytes}
+use Rattle.std.proofs.Common.{Some, None}
+use Rattle.std.specs.Bool.{then_some}
+use Rattle.std.proofs.lemmas.Option.{none-some, same_Some}
 use Rattle.message.specs.Message.{crlf, mark, numbers, framed}
 use Rattle.message.specs.Find.{AllBytes, Counted}
 use Rattle.message.specs.Scan.{scan, complete, prefix, ends_here, numbers_from, message_at}
 use Rattle.message.proofs.Prefix.{prefix_front}
 use Rattle.message.proofs.Reading.{run, all_read, read_numbered}
-
-pub nothing : (m : ℕ) → Nothing ≡ Bytes m → ⊥
-nothing m e = let z : ◌≡◌ {A = ℕ} 0 1 = cc in omega arith
 
 -- ---- up to the next CR LF
 -- the bytes before it are w
@@ -31,22 +30,21 @@ record Ended (st : Scan) (k : ℕ) (s : List ℕ) (m : ℕ) : Type 0 where
   long : m ≡ k + length w
   done : complete (run st w) ≡ true
 
-ended_here : (st : Scan) (k : ℕ) (s : List ℕ) (m : ℕ) → ends_here st k s ≡ Bytes m → Ended st k s m
+ended_here : (st : Scan) (k : ℕ) (s : List ℕ) (m : ℕ) → ends_here st k s ≡ Some m → Ended st k s m
 ended_here st k s m e = go (prefix crlf s && complete st) refl e
   where
-    go : (t : Bool) → prefix crlf s && complete st ≡ t → cond t (Bytes k) Nothing ≡ Bytes m → Ended st k s m
+    go : (t : Bool) → prefix crlf s && complete st ≡ t → then_some t k ≡ Some m → Ended st k s m
     go true f d =
         let b = both (prefix crlf s) (complete st) f in
-        let z : m ≡ k = cc in
-        record { w = []; rest = drop 2 s; spelt = prefix_front crlf s b.0; long = z ∙ sym (add-zero k); done = b.1 }
-    go false f d = absurd (nothing m d)
+        record { w = []; rest = drop 2 s; spelt = prefix_front crlf s b.0; long = sym (same_Some k m d) ∙ sym (add-zero k); done = b.1 }
+    go false f d = absurd (none-some m d)
 
-ended_at : (st : Scan) (k : ℕ) (s : List ℕ) (m : ℕ) → numbers_from st k s ≡ Bytes m → Ended st k s m
-ended_at st k [] m e = absurd (nothing m e)
+ended_at : (st : Scan) (k : ℕ) (s : List ℕ) (m : ℕ) → numbers_from st k s ≡ Some m → Ended st k s m
+ended_at st k [] m e = absurd (none-some m e)
 ended_at st k (b ∷ s) m e = go (eqb b 13) e (ended_at (scan st b) (suc k) s m)
   where
-    go : (t : Bool) → cond t (ends_here st k (b ∷ s)) (numbers_from (scan st b) (suc k) s) ≡ Bytes m
-        → (numbers_from (scan st b) (suc k) s ≡ Bytes m → Ended (scan st b) (suc k) s m) → Ended st k (b ∷ s) m
+    go : (t : Bool) → cond t (ends_here st k (b ∷ s)) (numbers_from (scan st b) (suc k) s) ≡ Some m
+        → (numbers_from (scan st b) (suc k) s ≡ Some m → Ended (scan st b) (suc k) s m) → Ended st k (b ∷ s) m
     go true d rest = ended_here st k (b ∷ s) m d
     go false d rest =
         let r = rest d in
@@ -64,12 +62,12 @@ cr_bad Opening = refl
 cr_bad (Comma p) = refl
 cr_bad (In p v) = refl
 
-reaches : (st : Scan) (k : ℕ) (w rest : List ℕ) → complete (run st w) ≡ true → numbers_from st k (w ++ crlf ++ rest) ≡ Bytes (k + length w)
+reaches : (st : Scan) (k : ℕ) (w rest : List ℕ) → complete (run st w) ≡ true → numbers_from st k (w ++ crlf ++ rest) ≡ Some (k + length w)
 reaches st k [] rest e = rw (e, add-zero)
 reaches st k (b ∷ w) rest e = go (eqb b 13) refl (reaches (scan st b) (suc k) w rest e)
   where
-    go : (t : Bool) → eqb b 13 ≡ t → numbers_from (scan st b) (suc k) (w ++ crlf ++ rest) ≡ Bytes (suc k + length w)
-        → cond t (ends_here st k (b ∷ w ++ crlf ++ rest)) (numbers_from (scan st b) (suc k) (w ++ crlf ++ rest)) ≡ Bytes (k + suc (length w))
+    go : (t : Bool) → eqb b 13 ≡ t → numbers_from (scan st b) (suc k) (w ++ crlf ++ rest) ≡ Some (suc k + length w)
+        → cond t (ends_here st k (b ∷ w ++ crlf ++ rest)) (numbers_from (scan st b) (suc k) (w ++ crlf ++ rest)) ≡ Some (k + suc (length w))
     go true d r = absurd (false≢true (rw (eqb-true b 13 d, cr_bad st, bad w) at e))
     go false d r = let l : suc k + length w ≡ k + suc (length w) = omega arith in r ∙ rw l
 
@@ -86,10 +84,10 @@ pub record Front (s : List ℕ) (k : ℕ) : Type 0 where
 spelt_out : (s t w ns rest : List ℕ) → s ≡ (crlf ++ mark) ++ t → t ≡ w ++ crlf ++ rest → w ≡ numbers ns → s ≡ framed ns ++ rest
 spelt_out s t w ns rest a b c = a ∙ rw (b, c)
 
-pub front_of : (s : List ℕ) (k : ℕ) → message_at s ≡ Bytes k → Front s k
+pub front_of : (s : List ℕ) (k : ℕ) → message_at s ≡ Some k → Front s k
 front_of s k e = go (prefix (crlf ++ mark) s) refl e
   where
-    go : (t : Bool) → prefix (crlf ++ mark) s ≡ t → cond t (numbers_from Opening 0 (drop 6 s)) Nothing ≡ Bytes k → Front s k
+    go : (t : Bool) → prefix (crlf ++ mark) s ≡ t → cond t (numbers_from Opening 0 (drop 6 s)) None ≡ Some k → Front s k
     go true f d =
         let r = ended_at Opening 0 (drop 6 s) k d in
         let n = read_numbered r.w r.done in
@@ -102,7 +100,7 @@ front_of s k e = go (prefix (crlf ++ mark) s) refl e
           spelt = spelt_out s (drop 6 s) r.w n.ns r.rest (prefix_front (crlf ++ mark) s f) r.spelt n.spelt;
           long = omega (arith, ap length n.spelt);
         }
-    go false f d = absurd (nothing k d)
+    go false f d = absurd (none-some k d)
 
-pub at_front : (ns rest : List ℕ) → AllBytes ns → Counted ns → message_at (framed ns ++ rest) ≡ Bytes (length (numbers ns))
+pub at_front : (ns rest : List ℕ) → AllBytes ns → Counted ns → message_at (framed ns ++ rest) ≡ Some (length (numbers ns))
 at_front ns rest h c = reaches Opening 0 (numbers ns) rest (all_read ns h c) ∙ rw zero-add

@@ -11,8 +11,7 @@ use lib.ListN.{length, take, drop}
 use lib.Seq.{drop-drop, take-append_seam, drop-append-add}
 use Rattle.message.specs.declared.Scan.{Scan}
 use Rattle.message.specs.declared.Scan.TheVariants.{Opening}
-use Rattle.message.specs.declared.Numbers.{Numbers}
-use Rattle.message.specs.declared.Numbers.TheVariants.{Nothing, Bytes}
+use Rattle.std.proofs.Common.{Option, Some, None}
 use Rattle.message.specs.Message.{crlf, mark, numbers, body, framed, message}
 use Rattle.message.specs.Find.{AllBytes, Counted, Earliest, NoMessage}
 use Rattle.message.specs.Scan.{scan, prefix, numbers_from, message_at, placed, located_from, located}
@@ -35,8 +34,8 @@ plain [] = true
 plain (a ∷ w) = cond (eqb 13 a) false (plain w)
 
 -- the numbers after a word that has to stand at the front, if what is before it was right
-abbrev after : Bool → List ℕ → List ℕ → Numbers
-after ok w s = cond (ok && prefix w s) (numbers_from Opening 0 (drop (length w) s)) Nothing
+abbrev after : Bool → List ℕ → List ℕ → Option ℕ
+after ok w s = cond (ok && prefix w s) (numbers_from Opening 0 (drop (length w) s)) None
 
 after_alike : (w p x : List ℕ) → T (plain w) → after true w (p ++ (crlf ++ x)) ≡ after true w (p ++ crlf)
 after_alike [] p x t = numbers_alike Opening 0 p x
@@ -60,25 +59,25 @@ front_alike c p x = go (eqb c 13)
     go false = refl
 
 -- ---- a message is passed over only where none stands
-nothing_here : (s : List ℕ) → NoMessage s → message_at s ≡ Nothing
+nothing_here : (s : List ℕ) → NoMessage s → message_at s ≡ None
 nothing_here s none = go (message_at s) refl
   where
-    go : (n : Numbers) → message_at s ≡ n → n ≡ Nothing
-    go Nothing e = refl
-    go (Bytes k) e =
+    go : (n : Option ℕ) → message_at s ≡ n → n ≡ None
+    go None e = refl
+    go (Some k) e =
         let f = front_of s k e in
         absurd (none 0 f.ns (record { bytes = f.bytes; counted = f.counted; rest = f.rest; spelt = f.spelt }))
 
 module _ (ns q : List ℕ) (bytes : AllBytes ns) (counted : Counted ns) where
-  passes : (i : ℕ) (p : List ℕ) → NoMessage (p ++ crlf) → located_from i (p ++ (framed ns ++ q)) ≡ record { start = i + length p + 2; len = length (body ns) }
+  passes : (i : ℕ) (p : List ℕ) → NoMessage (p ++ crlf) → located_from i (p ++ (framed ns ++ q)) ≡ Some (record { start = i + length p + 2; len = length (body ns) })
   passes i [] none =
       let a : i + 2 ≡ i + 0 + 2 = omega arith in
       let b : 4 + length (numbers ns) ≡ length (body ns) = omega arith in
-      ap (λ (n : Numbers). placed i n (located_from (suc i) (drop 1 (framed ns ++ q)))) (at_front ns q bytes counted) ∙ rw (a, b)
+      ap (λ (n : Option ℕ). placed i n (located_from (suc i) (drop 1 (framed ns ++ q)))) (at_front ns q bytes counted) ∙ rw (a, b)
   passes i (c ∷ p) none =
-      let e : message_at (c ∷ p ++ (framed ns ++ q)) ≡ Nothing = front_alike c p ((body ns ++ crlf) ++ q) ∙ nothing_here (c ∷ p ++ crlf) none in
+      let e : message_at (c ∷ p ++ (framed ns ++ q)) ≡ None = front_alike c p ((body ns ++ crlf) ++ q) ∙ nothing_here (c ∷ p ++ crlf) none in
       let a : suc i + length p + 2 ≡ i + suc (length p) + 2 = omega arith in
-      ap (λ (n : Numbers). placed i n (located_from (suc i) (p ++ (framed ns ++ q)))) e
+      ap (λ (n : Option ℕ). placed i n (located_from (suc i) (p ++ (framed ns ++ q)))) e
       ∙ (passes (suc i) p (λ j ms t. none (suc j) ms (shift c (p ++ crlf) j ms t)) ∙ rw a)
 
 -- what stands between the two CR LF pairs
@@ -91,7 +90,7 @@ earliest_bytes s start len e = rw (e.after_crlf, ← drop-drop 2 e.place s, e.lo
 
 -- the maker's message, among any bytes
 module _ (p q : List ℕ) (id : ℕ) (values : List ℕ) (none : NoMessage (p ++ crlf)) (bytes : AllBytes (id ∷ values)) (few : length values ≤ 255) where
-  pub located_message : located (p ++ (message id values ++ q)) ≡ record { start = length p + 2; len = length (body (id ∷ length values ∷ values)) }
+  pub located_message : located (p ++ (message id values ++ q)) ≡ Some (record { start = length p + 2; len = length (body (id ∷ length values ∷ values)) })
   unfolding located
   located_message = passes (id ∷ length values ∷ values) q (bytes.0, (few, bytes.1)) refl 0 p none ∙ rw zero-add
 

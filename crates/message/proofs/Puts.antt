@@ -1,12 +1,10 @@
 -- One thing put after another.
 -- Assumes nothing.
 use Prim.Native.Nat.{ℕ, ◌+◌, ◌≤◌}
-use mathlib.Core.Path.{◌≡◌, sym, ◌∙◌}
-use mathlib.Core.List.{List, [], ◌++◌, append_assoc}
+use mathlib.Core.Path.{sym, ◌∙◌}
+use mathlib.Core.List.{List, [], ◌++◌}
 use native.Mathlib.Nat.{add-zero, add_assoc}
 use lib.ListN.{length, length-append}
-use lib.Seq.{paste, take-length}
-use Rattle.laws.specs.Written.{written}
 use Rattle.laws.proofs.Tail.{written_none, written_more}
 use Rattle.message.specs.Made.{Put}
 
@@ -21,7 +19,3 @@ put_next old new out more out' at k k' fits p q =
       place = rw (q.place, p.place, length-append, add_assoc);
       contents = q.contents ∙ rw (p.contents, p.place) (written_more old at new fits more);
     }
-
--- a whole word copied is the word written
-pub whole_word : (old word : List ℕ) (at : ℕ) → paste old at word (length word) ≡ written old at word
-whole_word old word at = rw (take-length, append_assoc)

@@ -20,7 +20,7 @@ use Rattle.message.specs.Message.{digit, digits, numbers}
 use Rattle.message.specs.Find.{AllBytes, Counted}
 use Rattle.message.specs.Scan.{ended, whole, is_digit, more, scan, complete}
 use Rattle.message.proofs.Digits.{one_digit}
-use Rattle.message.proofs.Sizes.{numbers_append}
+use Rattle.message.proofs.Sizes.{marked_append}
 use Rattle.message.proofs.Turns.{digit_bounds, more_fits, in_digit}
 
 -- the bytes of w, from a state on
@@ -151,7 +151,7 @@ finished p v w h r =
       ns = r.ns ++ v ∷ [];
       bytes = bytes_append r.ns v r.bytes h;
       phase = rw (reads_append, r.phase);
-      spelt = r.spelt ∙ rw (append-nil, numbers_append, append-nil);
+      spelt = r.spelt ∙ rw (append-nil, marked_append, append-nil);
     }
 
 longer : (p : Phase) (w end : List ℕ) (b : ℕ) → Before p w end → Before p (w ++ b ∷ []) (end ++ b ∷ [])

@@ -33,6 +33,6 @@ pub record Earliest (s : List ℕ) (start len : ℕ) : Type 0 where
   pub after_crlf : start ≡ place + 2
   pub long : len ≡ length (body ns)
 
--- or it is empty, at the start, exactly if no message stands anywhere
+-- or there is none, exactly if no message stands anywhere
 abbrev pub NoMessage : List ℕ → Type 0
 NoMessage s = (j : ℕ) (ns : List ℕ) → Stands s j ns → ⊥

@@ -18,10 +18,14 @@ digits n =
     (cond (ltb n 100) (digit (n / 10) ∷ digit (n % 10) ∷ [])
     (digit (n / 100) ∷ digit (n / 10 % 10) ∷ digit (n % 10) ∷ []))
 
+-- a mark before each number
+abbrev pub marked : ℕ → List ℕ → List ℕ
+marked m [] = []
+marked m (n ∷ ns) = m ∷ digits n ++ marked m ns
+
 -- a comma before each number
 abbrev pub numbers : List ℕ → List ℕ
-numbers [] = []
-numbers (n ∷ ns) = 44 ∷ digits n ++ numbers ns
+numbers ns = marked 44 ns
 
 -- from the hyphen to the last digit
 abbrev pub body : List ℕ → List ℕ

@@ -1,11 +1,10 @@
 -- A message looked for byte by byte: the definition that computes what `Find` says.
-use Rattle.std.specs.Prelude.{ℕ, suc, ◌+◌, ◌*◌, ◌-◌, Bool, true, false, cond, ◌&&◌, List, [], ◌∷◌, ◌++◌, eqb, leb, drop}
+use Rattle.std.specs.Prelude.{ℕ, suc, ◌+◌, ◌*◌, ◌-◌, Bool, true, false, cond, ◌&&◌, Option, Some, None, List, [], ◌∷◌, ◌++◌, eqb, leb, drop}
+use Rattle.std.specs.Bool.{then_some}
 use Rattle.message.specs.declared.Phase.{Phase}
 use Rattle.message.specs.declared.Phase.TheVariants.{First, Second, Rest, Over}
 use Rattle.message.specs.declared.Scan.{Scan}
 use Rattle.message.specs.declared.Scan.TheVariants.{Bad, Opening, Comma, In}
-use Rattle.message.specs.declared.Numbers.{Numbers}
-use Rattle.message.specs.declared.Numbers.TheVariants.{Nothing, Bytes}
 use Rattle.message.specs.declared.Place.{Place}
 use Rattle.message.specs.Message.{crlf, mark}
 
@@ -50,26 +49,26 @@ prefix (x ∷ w) [] = false
 prefix (x ∷ w) (y ∷ s) = eqb y x && prefix w s
 
 -- the k bytes of numbers that are read, if they may end here and CR LF follows
-abbrev pub ends_here : Scan → ℕ → List ℕ → Numbers
-ends_here st k s = cond (prefix crlf s && complete st) (Bytes k) Nothing
+abbrev pub ends_here : Scan → ℕ → List ℕ → Option ℕ
+ends_here st k s = then_some (prefix crlf s && complete st) k
 
--- how many bytes the numbers take, up to a CR LF, of which k are read; nothing where they are not those of a message
-abbrev pub numbers_from : Scan → ℕ → List ℕ → Numbers
-numbers_from st k [] = Nothing
+-- how many bytes the numbers take, up to a CR LF, of which k are read; none where they are not those of a message
+abbrev pub numbers_from : Scan → ℕ → List ℕ → Option ℕ
+numbers_from st k [] = None
 numbers_from st k (b ∷ s) = cond (eqb b 13) (ends_here st k (b ∷ s)) (numbers_from (scan st b) (suc k) s)
 
 -- the numbers of the message that begins with the first byte, if one does
-abbrev pub message_at : List ℕ → Numbers
-message_at s = cond (prefix (crlf ++ mark) s) (numbers_from Opening 0 (drop 6 s)) Nothing
+abbrev pub message_at : List ℕ → Option ℕ
+message_at s = cond (prefix (crlf ++ mark) s) (numbers_from Opening 0 (drop 6 s)) None
 
-abbrev pub placed : ℕ → Numbers → Place → Place
-placed i Nothing other = other
-placed i (Bytes k) other = record { start = i + 2; len = 4 + k }
+abbrev pub placed : ℕ → Option ℕ → Option Place → Option Place
+placed i None other = other
+placed i (Some k) other = Some (record { start = i + 2; len = 4 + k })
 
--- the earliest message, counted from i
-abbrev pub located_from : ℕ → List ℕ → Place
-located_from i [] = record { start = 0; len = 0 }
+-- the earliest message, counted from i, if there is one
+abbrev pub located_from : ℕ → List ℕ → Option Place
+located_from i [] = None
 located_from i (b ∷ s) = placed i (message_at (b ∷ s)) (located_from (suc i) s)
 
-unfoldable pub located : List ℕ → Place
+unfoldable pub located : List ℕ → Option Place
 located s = located_from 0 s

@@ -1,10 +1,10 @@
 // Status messages: made into a lent buffer, and found among any bytes.
 #![tactic(auto)]
 
-ghost use Rattle.std.specs.Prelude.{◌≡◌, ◌+◌, ◌≤◌, length, drop};
-ghost use Rattle.message.specs.Message.{digits, numbers, framed};
-ghost use Rattle.message.specs.Made.{field, made_count, Made, Put};
-ghost use Rattle.message.specs.Scan.{ended, whole, is_digit, more, scan, complete, prefix, numbers_from, ends_here, message_at};
+ghost use Rattle.std.specs.Prelude.{◌≡◌, ◌+◌, ◌≤◌, ◌∷◌, length};
+ghost use Rattle.message.specs.Message.{digits, marked, framed};
+ghost use Rattle.message.specs.Made.{made_count, Made, Put};
+ghost use Rattle.message.specs.Scan.{ended, whole, more, scan, complete, numbers_from, ends_here, message_at};
 ghost use Rattle.message.specs.Located.{Located, HandsBack};
 
 // How many of the numbers of a message are read: none, the id, or also the second, which says how many have to come yet. Over:
@@ -17,6 +17,28 @@ pub enum Phase {
     Over,
 }
 
+impl Phase {
+    // What has to come after a number of this value has ended.
+    fn ended(self, v: u8) -> Phase
+        ensures { result ≡ ended self v }
+    {
+        match self {
+            Phase::First => Phase::Second,
+            Phase::Second => Phase::Rest(v),
+            Phase::Rest(0) => Phase::Over,
+            Phase::Rest(n) => Phase::Rest(n - 1),
+            Phase::Over => Phase::Over,
+        }
+    }
+
+    // Whether as many numbers came as the second said.
+    fn is_whole(self) -> bool
+        ensures { result ≡ whole self }
+    {
+        matches!(self, Phase::Rest(0))
+    }
+}
+
 // How far the numbers of a message are read, byte by byte. Opening: a comma has to come. Comma: a digit has to come. In: in a
 // number, of this value so far. Bad: not the numbers of a message.
 #[derive(Clone, Copy)]
@@ -27,164 +49,26 @@ pub enum Scan {
     In(Phase, u8),
 }
 
-// Whether complete numbers stand somewhere, and how many bytes they take.
-#[derive(Clone, Copy)]
-pub enum Numbers {
-    Nothing,
-    Bytes(usize),
-}
-
-// The stretch of a message, from its hyphen to its last digit; both are 0 where there is none.
-#[derive(Clone, Copy)]
-pub struct Place {
-    pub start: usize,
-    pub len: usize,
-}
-
-// The four bytes that every message begins with after its CR LF.
-const MARK: [u8; 4] = *b"-.TC";
-
-// How many digits a number has.
-fn width(n: u8) -> usize
-    ensures { result ≡ length (digits n) }
-{
-    if n < 10 {
-        return 1;
-    }
-    if n < 100 {
-        return 2;
-    }
-    3
-}
-
-// The bytes of `word` from `at` in `out`. Gives the place after them.
-pub fn put(word: &[u8], out: &mut [u8], at: usize) -> usize
-    requires { at + length word.now ≤ length out.old }
-    ensures { Put out.old at word.now out.new result }
-{
-    let mut i = 0;
-    while i < word.len() {
-        let k = at + i;
-        out[k] = word[i];
-        i += 1;
-    }
-    at + i
-}
-
-// A comma and the digits of a number from `at` in `out`. Gives the place after them.
-fn put_field(n: u8, out: &mut [u8], at: usize) -> usize
-    requires { at + length (field n) ≤ length out.old }
-    ensures { Put out.old at (field n) out.new result }
-{
-    if n < 10 {
-        return put(&[44, 48 + n], out, at);
-    }
-    if n < 100 {
-        return put(&[44, 48 + n / 10, 48 + n % 10], out, at);
-    }
-    put(&[44, 48 + n / 100, 48 + n / 10 % 10, 48 + n % 10], out, at)
-}
-
-// A comma and the digits of each number from `at` in `out`. Gives the place after them.
-fn put_numbers(ns: &[u8], out: &mut [u8], at: usize) -> usize
-    requires { at + length (numbers ns.now) ≤ length out.old }
-    ensures { Put out.old at (numbers ns.now) out.new result }
-{
-    let mut k = at;
-    let mut i = 0;
-    while i < ns.len() {
-        k = put_field(ns[i], out, k);
-        i += 1;
-    }
-    k
-}
-
-// The length of the message of these numbers where `room` is enough for it, otherwise 0.
-fn size(ns: &[u8], room: usize) -> usize
-    ensures { result ≡ made_count ns.now room }
-{
-    if room < 8 {
-        return 0;
-    }
-    let mut n = 8;
-    let mut i = 0;
-    while i < ns.len() {
-        let w = 1 + width(ns[i]);
-        if room - n < w {
-            return 0;
+impl Scan {
+    // One byte more of what has to be the numbers of a message.
+    fn next(self, b: u8) -> Scan
+        ensures { result ≡ scan self b }
+    {
+        match self {
+            Scan::Opening if b == b',' => Scan::Comma(Phase::First),
+            Scan::Comma(p) if b.is_ascii_digit() => Scan::In(p, b - b'0'),
+            Scan::In(p, v) if b == b',' => Scan::Comma(p.ended(v)),
+            Scan::In(p, v) if b.is_ascii_digit() => more(p, v, b),
+            _ => Scan::Bad,
         }
-        n += w;
-        i += 1;
     }
-    n
-}
 
-// The message of these numbers at the front of `out`, which has room for it. Gives the place after it.
-fn put_message(ns: &[u8], out: &mut [u8]) -> usize
-    requires { length (framed ns.now) ≤ length out.old }
-    ensures { Put out.old 0 (framed ns.now) out.new result }
-{
-    let a = put(b"\r\n", out, 0);
-    let b = put(&MARK, out, a);
-    let c = put_numbers(ns, out, b);
-    put(b"\r\n", out, c)
-}
-
-// The message of these numbers at the front of `out`, and its length; nothing and 0 where `out` has no room for it.
-pub fn make(ns: &[u8], out: &mut [u8]) -> usize
-    ensures { Made ns.now out.old out.new result }
-{
-    if size(ns, out.len()) == 0 {
-        return 0;
+    // Whether the numbers may end here.
+    fn is_complete(self) -> bool
+        ensures { result ≡ complete self }
+    {
+        matches!(self, Scan::In(p, v) if p.ended(v).is_whole())
     }
-    put_message(ns, out)
-}
-
-// What has to come after a number of this value has ended.
-fn ended(p: Phase, v: u8) -> Phase
-    ensures { result ≡ ended p v }
-{
-    match p {
-        Phase::First => Phase::Second,
-        Phase::Second => Phase::Rest(v),
-        Phase::Rest(n) => {
-            if n == 0 {
-                Phase::Over
-            } else {
-                Phase::Rest(n - 1)
-            }
-        }
-        Phase::Over => Phase::Over,
-    }
-}
-
-// Whether as many numbers came as the second said.
-fn whole(p: Phase) -> bool
-    ensures { result ≡ whole p }
-{
-    match p {
-        Phase::First => false,
-        Phase::Second => false,
-        Phase::Rest(n) => n == 0,
-        Phase::Over => false,
-    }
-}
-
-// Whether the byte is a digit.
-fn is_digit(b: u8) -> bool
-    ensures { result ≡ is_digit b }
-{
-    if b < 48 {
-        return false;
-    }
-    b <= 57
-}
-
-// A byte as a larger number.
-fn wide(b: u8) -> u32
-    ensures { (result ≡ b) × (result ≤ 255) }
-{
-    b as u32
 }
 
 // One digit more of a number that is begun.
@@ -195,151 +79,152 @@ fn more(p: Phase, v: u8, b: u8) -> Scan
     if v == 0 {
         return Scan::Bad;
     }
-    let n = wide(v) * 10 + wide(b - 48);
-    if n <= 255 {
-        Scan::In(p, n as u8)
-    } else {
-        Scan::Bad
+    match u8::try_from(u16::from(v) * 10 + u16::from(b - b'0')) {
+        Ok(n) => Scan::In(p, n),
+        Err(_) => Scan::Bad,
     }
 }
 
-// One byte more in a number.
-fn scan_in(p: Phase, v: u8, b: u8) -> Scan
-    ensures { result ≡ scan (Scan.In p v) b }
+// The stretch of a message, from its hyphen to its last digit.
+#[derive(Clone, Copy)]
+pub struct Place {
+    pub start: usize,
+    pub len: usize,
+}
+
+// The six bytes that every message begins with.
+const FRONT: [u8; 6] = *b"\r\n-.TC";
+
+// How many digits a number has.
+fn width(n: u8) -> usize
+    ensures { result ≡ length (digits n) }
 {
-    if b == 44 {
-        return Scan::Comma(ended(p, v));
-    }
-    if is_digit(b) {
-        more(p, v, b)
-    } else {
-        Scan::Bad
+    match n {
+        0..=9 => 1,
+        10..=99 => 2,
+        _ => 3,
     }
 }
 
-// One byte more of what has to be the numbers of a message.
-fn scan_byte(st: Scan, b: u8) -> Scan
-    ensures { result ≡ scan st b }
+// The bytes of `word` from `at` in `out`. Gives the place after them.
+pub fn put(word: &[u8], out: &mut [u8], at: usize) -> usize
+    requires { at + length word.now ≤ length out.old }
+    ensures { Put out.old at word.now out.new result }
 {
-    match st {
-        Scan::Bad => Scan::Bad,
-        Scan::Opening => {
-            if b == 44 {
-                Scan::Comma(Phase::First)
-            } else {
-                Scan::Bad
-            }
-        }
-        Scan::Comma(p) => {
-            if is_digit(b) {
-                Scan::In(p, b - 48)
-            } else {
-                Scan::Bad
-            }
-        }
-        Scan::In(p, v) => scan_in(p, v, b),
-    }
+    let end = at + word.len();
+    out[at..end].copy_from_slice(word);
+    end
 }
 
-// Whether the numbers may end here.
-fn complete(st: Scan) -> bool
-    ensures { result ≡ complete st }
+// A mark and the digits of a number from `at` in `out`. Gives the place after them.
+fn put_number(mark: u8, n: u8, out: &mut [u8], at: usize) -> usize
+    requires { at + length (mark ∷ digits n) ≤ length out.old }
+    ensures { Put out.old at (mark ∷ digits n) out.new result }
 {
-    match st {
-        Scan::Bad => false,
-        Scan::Opening => false,
-        Scan::Comma(_) => false,
-        Scan::In(p, v) => whole(ended(p, v)),
+    match n {
+        0..=9 => put(&[mark, b'0' + n], out, at),
+        10..=99 => put(&[mark, b'0' + n / 10, b'0' + n % 10], out, at),
+        _ => put(
+            &[mark, b'0' + n / 100, b'0' + n / 10 % 10, b'0' + n % 10],
+            out,
+            at,
+        ),
     }
 }
 
-// Whether the bytes of `w` stand at `at`.
-fn starts_at(s: &[u8], at: usize, w: &[u8]) -> bool
-    requires { at ≤ length s.now }
-    ensures { result ≡ prefix w.now (drop at s.now) }
+// A mark and the digits of each number from `at` in `out`. Gives the place after them.
+pub fn put_numbers(mark: u8, ns: &[u8], out: &mut [u8], at: usize) -> usize
+    requires { at + length (marked mark ns.now) ≤ length out.old }
+    ensures { Put out.old at (marked mark ns.now) out.new result }
 {
-    let mut i = 0;
-    while i < w.len() {
-        if s.len() - at <= i {
-            return false;
-        }
-        let k = at + i;
-        if s[k] != w[i] {
-            return false;
-        }
-        i += 1;
+    let mut k = at;
+    for n in ns {
+        k = put_number(mark, *n, out, k);
     }
-    true
+    k
 }
 
-// The `k` bytes of numbers before `at`, if they may end there and CR LF follows.
-fn ends_at(s: &[u8], at: usize, st: Scan, k: usize) -> Numbers
-    requires { at ≤ length s.now }
-    ensures { result ≡ ends_here st k (drop at s.now) }
+// The length of the message of these numbers, if `room` is enough for it.
+fn size(ns: &[u8], room: usize) -> Option<usize>
+    ensures { result ≡ made_count ns.now room }
 {
-    if starts_at(s, at, b"\r\n") {
-        if complete(st) {
-            return Numbers::Bytes(k);
-        }
+    let mut n: usize = 8;
+    for v in ns {
+        n = n.checked_add(1 + width(*v))?;
     }
-    Numbers::Nothing
+    (n <= room).then_some(n)
 }
 
-// How many bytes the numbers from `from` take, up to a CR LF; nothing where they are not those of a message.
-fn numbers_at(s: &[u8], from: usize) -> Numbers
-    requires { from ≤ length s.now }
-    ensures { result ≡ numbers_from Scan.Opening 0 (drop from s.now) }
+// The message of these numbers at the front of `out`, which has room for it. Gives the place after it.
+fn put_message(ns: &[u8], out: &mut [u8]) -> usize
+    requires { length (framed ns.now) ≤ length out.old }
+    ensures { Put out.old 0 (framed ns.now) out.new result }
+{
+    let a = put(&FRONT, out, 0);
+    let b = put_numbers(b',', ns, out, a);
+    put(b"\r\n", out, b)
+}
+
+// The message of these numbers at the front of `out`, and its length; nothing, and `out` as it was, where it has no room for it.
+pub fn make(ns: &[u8], out: &mut [u8]) -> Option<usize>
+    ensures { Made ns.now out.old out.new result }
+{
+    size(ns, out.len())?;
+    Some(put_message(ns, out))
+}
+
+// The `k` bytes of numbers before these, if the numbers may end here and CR LF follows.
+fn ends_at(s: &[u8], st: Scan, k: usize) -> Option<usize>
+    ensures { result ≡ ends_here st k s.now }
+{
+    (s.starts_with(b"\r\n") && st.is_complete()).then_some(k)
+}
+
+// How many bytes the numbers take that these begin with, up to a CR LF, if they are those of a message.
+fn numbers_at(s: &[u8]) -> Option<usize>
+    ensures { result ≡ numbers_from Scan.Opening 0 s.now }
 {
     let mut st = Scan::Opening;
-    let mut i = from;
-    while i < s.len() {
-        let b = s[i];
-        if b == 13 {
-            return ends_at(s, i, st, i - from);
+    for (k, b) in s.iter().enumerate() {
+        if *b == b'\r' {
+            return ends_at(&s[k..], st, k);
         }
-        st = scan_byte(st, b);
-        i += 1;
+        st = st.next(*b);
     }
-    Numbers::Nothing
+    None
 }
 
-// The numbers of the message that begins at `at`, if one does.
-fn message_at(s: &[u8], at: usize) -> Numbers
-    requires { at ≤ length s.now }
-    ensures { result ≡ message_at (drop at s.now) }
+// How many bytes the numbers take of the message that these begin with, if they begin with one.
+fn message_at(s: &[u8]) -> Option<usize>
+    ensures { result ≡ message_at s.now }
 {
-    if starts_at(s, at, b"\r\n") {
-        if starts_at(s, at + 2, &MARK) {
-            return numbers_at(s, at + 6);
-        }
-    }
-    Numbers::Nothing
+    numbers_at(s.strip_prefix(&FRONT)?)
 }
 
-// Where the earliest complete message stands, from its hyphen to its last digit; both 0 where there is none.
-pub fn locate(s: &[u8]) -> Place
+// Where the earliest complete message stands, from its hyphen to its last digit, if one does.
+pub fn locate(s: &[u8]) -> Option<Place>
     ensures { Located s.now result }
 {
-    let mut i = 0;
-    while i < s.len() {
-        let here = message_at(s, i);
-        if let Numbers::Bytes(k) = here {
-            return Place {
+    for i in 0..s.len() {
+        if let Some(k) = message_at(&s[i..]) {
+            return Some(Place {
                 start: i + 2,
                 len: 4 + k,
-            };
+            });
         }
-        i += 1;
     }
-    Place { start: 0, len: 0 }
+    None
 }
 
 // That very stretch of the bytes, from the hyphen to the last digit of the earliest complete message; empty where there is none.
 pub fn find(s: &[u8]) -> &[u8]
     ensures { HandsBack s.entry result }
 {
-    let p = locate(s);
-    let a = p.start;
-    let e = a + p.len;
-    &s[a..e]
+    match locate(s) {
+        Some(p) => {
+            let end = p.start + p.len;
+            &s[p.start..end]
+        }
+        None => &s[..0],
+    }
 }

@@ -1,34 +1,32 @@
 -- The invariant: the earliest message from here on is the earliest of all.
 use mathlib.Core.Path.{sym, ◌∙◌}
 use native.Mathlib.Omega.{arith}
-use borrow.Author.Rules.{rules}
+use Rattle.laws.proofs.Tail.{to_end}
 use Rattle.message.proofs.Right.{located_is, locate_start, locate_here, locate_next, locate_over, room_here}
 use Rattle.message.proofs.locate.Goals as goal
 
 pub loop-i-init : goal.loop-i-init
-loop-i-init c = (search rules, locate_start c.args.s.now)
+loop-i-init c = locate_start c.args.s.now
 
-pub overflow_add-result : goal.overflow_add-result
-overflow_add-result c =
-    let a = c.args in let l = c.loop-i in
-    record { fits = omega (arith, room_here a.s.now l.i c.loop-i-test.true _ (sym c.message_at-here.ensures ∙ c.in-Bytes.is)) }
+pub overflow_add-result-in-Some : goal.overflow_add-result-in-Some
+overflow_add-result-in-Some c =
+    let s = c.args.s.now in let l = c.loop-i in
+    let e = rw (to_end s l.i) at (sym c.message_at.ensures ∙ c.in-Some.is) in
+    record { fits = omega (arith, room_here s l.i c.loop-i-test.true _ e) }
 
-pub overflow_add-result-in-Bytes : goal.overflow_add-result-in-Bytes
-overflow_add-result-in-Bytes c =
-    let a = c.args in let l = c.loop-i in
-    record { fits = omega (arith, room_here a.s.now l.i c.loop-i-test.true _ (sym c.message_at-here.ensures ∙ c.in-Bytes.is)) }
-
-pub returns-in-Bytes : goal.returns-in-Bytes
-returns-in-Bytes c =
-    let a = c.args in let l = c.loop-i in
-    located_is a.s.now _ (l.invariant.1 ∙ locate_here a.s.now l.i c.loop-i-test.true _ (sym c.message_at-here.ensures ∙ c.in-Bytes.is))
+pub returns-in-Some : goal.returns-in-Some
+returns-in-Some c =
+    let s = c.args.s.now in let l = c.loop-i in
+    let e = rw (to_end s l.i) at (sym c.message_at.ensures ∙ c.in-Some.is) in
+    located_is s _ (l.invariant ∙ locate_here s l.i c.loop-i-test.true _ e)
 
 pub loop-i-preserved : goal.loop-i-preserved
 loop-i-preserved c =
-    let a = c.args in let l = c.loop-i in
-    (omega arith, l.invariant.1 ∙ locate_next a.s.now l.i c.loop-i-test.true (sym c.message_at-here.ensures ∙ c.in_default.is))
+    let s = c.args.s.now in let l = c.loop-i in
+    let e = rw (to_end s l.i) at (sym c.message_at.ensures ∙ c.in_default.is) in
+    l.invariant ∙ locate_next s l.i c.loop-i-test.true e
 
 pub returns : goal.returns
 returns c =
-    let a = c.args in let l = c.loop-i in
-    located_is a.s.now _ (l.invariant.1 ∙ locate_over a.s.now l.i (omega arith))
+    let s = c.args.s.now in let l = c.loop-i in
+    located_is s _ (l.invariant ∙ locate_over s l.i c.loop-i-test.false)
