@@ -1,20 +1,21 @@
 -- Numbers as a log sheet has them.
-use Rattle.std.specs.Prelude.{ℕ, ◌/◌, ◌≡◌, cond, List, [], ◌∷◌, ◌++◌, leb, length}
+use Rattle.std.specs.Prelude.{ℕ, ◌/◌, ◌≡◌, Bool, cond, Option, List, [], leb, length}
+use Rattle.std.specs.Bool.{then_some}
 use Rattle.laws.specs.Written.{fronted}
-use Rattle.message.specs.Message.{digits}
+use Rattle.message.specs.Message.{marked}
 
--- a number in decimal, after a space
-abbrev pub word : ℕ → List ℕ
-word n = 32 ∷ digits n
-
+-- numbers in decimal, each after a space
 abbrev pub words : List ℕ → List ℕ
-words [] = []
-words (n ∷ ns) = word n ++ words ns
+words ns = marked 32 ns
+
+-- there are four places for each number
+abbrev pub has_room : List ℕ → List ℕ → Bool
+has_room ns old = leb (length ns) (length old / 4)
 
 -- what is spelt into a buffer: all of it, or nothing where there are less than four places for each number
 abbrev pub spelt : List ℕ → List ℕ → List ℕ
-spelt ns old = cond (leb (length ns) (length old / 4)) (words ns) []
+spelt ns old = cond (has_room ns old) (words ns) []
 
-pub record Spells (ns old new : List ℕ) (count : ℕ) : Type 0 where
-  pub counted : count ≡ length (spelt ns old)
+pub record Spells (ns old new : List ℕ) (count : Option ℕ) : Type 0 where
+  pub counted : count ≡ then_some (has_room ns old) (length (spelt ns old))
   pub places : new ≡ fronted old (spelt ns old)
