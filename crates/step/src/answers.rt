@@ -11,11 +11,11 @@ use crate::{State, Took};
 use command::Verb;
 
 // The message of the first n numbers.
-fn make_first(numbers: [u8; 10], n: usize, out: &mut [u8]) -> usize
+fn make_first(numbers: [u8; 10], n: usize, out: &mut [u8]) -> Option<usize>
     requires { n ≤ 10 }
     ensures { Made (take n numbers) out.old out.new result }
 {
-    message::make(&numbers[0..n], out)
+    message::make(&numbers[..n], out)
 }
 
 // A finished command obeyed, and its answer at the front of the host buffer, if all of it fits.
@@ -33,8 +33,8 @@ pub fn put_answer(s: State, v: Verb, count: u8, fields: [u8; 11], out: &mut [u8]
     let next = with_stored(s, stored);
     let made = make_first(numbers, n, out);
     Took {
-        fits: 0 < made,
+        fits: made.is_some(),
         state: next,
-        count: made,
+        count: made.unwrap_or(0),
     }
 }

@@ -17,4 +17,4 @@ make_first-made-requires c =
 pub returns : goal.returns
 returns c =
     let m = rw c.run-o.ensures at c.make_first-made.ensures in
-    rw (c.with_stored-next.ensures, c.run-o.ensures) (made_puts _ _ _ _ _ m)
+    rw (c.with_stored-next.ensures, c.run-o.ensures) (made_puts _ _ _ _ _ m _ _ c.is_some.ensures c.unwrap_or.ensures)
