@@ -7,15 +7,15 @@ use mathlib.Core.List.{List, [], ◌∷◌}
 use borrow.Author.Tests.{eqb-true, not-true}
 use lib.Dec.{eqb}
 use lib.ListN.{get_or, drop}
+use Rattle.std.specs.Prelude.{Result, Ok, Err, is_ok}
 use Rattle.laws.proofs.Both.{both}
 use Rattle.settings.specs.declared.Home.{Home}
 use Rattle.settings.specs.declared.Home.TheVariants.{Version, Linked, Unlinked, Value, String, Power, Signal, Factory, Nowhere}
 use Rattle.settings.specs.declared.Row.{Row}
 use Rattle.settings.specs.declared.Fault.{Fault}
-use Rattle.settings.specs.declared.Fault.TheVariants as fault
 use Rattle.settings.specs.declared.Stored.{Stored}
 use Rattle.settings.specs.Table.{options, rows_from, seek, row, is_connection}
-use Rattle.settings.specs.Command.{number_of, kept, store, obey, answered, wrong, commanded}
+use Rattle.settings.specs.Command.{kept, store, obey, answered, wrong, commanded}
 use Rattle.demands.specs.Names.{Verb, Write, Read, Other, Settings, Calling, Connection, State}
 use Rattle.demands.specs.Writes.{among, is_write, writes_in, connection_ids, forgetting_ids}
 
@@ -71,13 +71,9 @@ module _ (flag : Stored → Bool) (f : Home → Bool) (ids : List ℕ) (unset : 
     obeyed Read = unset s k c
     obeyed Other = unset s k c
 
-    judged : (v : Verb) (x : Fault) → flag (answered x s k c v (row (get_or fields 0 0)) fields).stored ≡ (eqb (number_of x) 0 && (is_write v && among ids (get_or fields 0 0)))
-    judged v fault.Nothing = obeyed v
-    judged v fault.Type = unset s k c
-    judged v fault.Id = unset s k c
-    judged v fault.Parameters = unset s k c
-    judged v fault.Checksum = unset s k c
-    judged v fault.Range = unset s k c
+    judged : (v : Verb) (x : Result (Unit {0}) Fault) → flag (answered x s k c v (row (get_or fields 0 0)) fields).stored ≡ (is_ok x && (is_write v && among ids (get_or fields 0 0)))
+    judged v (Ok u) = obeyed v
+    judged v (Err f) = unset s k c
 
   flagged : (s : State) (v : Verb) (count : ℕ) (fields : List ℕ) → flag (commanded s.settings s.calling s.connection v count fields).stored ≡ writes_in ids s v count fields
   unfolding commanded

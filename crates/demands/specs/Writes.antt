@@ -1,7 +1,7 @@
 -- When a byte writes an id: it finishes a command that does, without error.
-use Rattle.std.specs.Prelude.{ℕ, Bool, true, false, ◌&&◌, ◌||◌, List, [], ◌∷◌, ◌++◌, eqb, get_or}
+use Rattle.std.specs.Prelude.{ℕ, Bool, true, false, ◌&&◌, ◌||◌, List, [], ◌∷◌, ◌++◌, eqb, get_or, is_ok}
 use Rattle.command.specs.Read.{read}
-use Rattle.settings.specs.Command.{number_of, wrong}
+use Rattle.settings.specs.Command.{wrong}
 use Rattle.step.specs.Step.{Event}
 use Rattle.demands.specs.Names.{Verb, Write, Read, Other, Out, Nothing, One, Two, Finished, State, Stream, Host, Line, Tu}
 
@@ -18,7 +18,7 @@ is_write Other = false
 
 -- a command of these fields writes one of these ids: nothing is wrong with it, it is a write, and the first field is such an id
 abbrev pub writes_in : List ℕ → State → Verb → ℕ → List ℕ → Bool
-writes_in ids s v count fields = eqb (number_of (wrong s.settings s.calling s.connection v count fields)) 0 && (is_write v && among ids (get_or fields 0 0))
+writes_in ids s v count fields = is_ok (wrong s.settings s.calling s.connection v count fields) && (is_write v && among ids (get_or fields 0 0))
 
 -- what the command reader made of a byte does
 abbrev pub writing : List ℕ → State → Out → Bool

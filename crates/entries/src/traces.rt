@@ -3,7 +3,7 @@ ghost use Rattle.std.specs.Prelude.{◌≡◌};
 ghost use Rattle.entries.specs.Traces.{ready, judged, prepared, form_taken, form_first, form_second, lending, limited};
 
 use crate::text::{Form, after_bar, before_bar, decode};
-use settings::Stored;
+use settings::Setup;
 use step::states::with_stored;
 use step::{State, Stream};
 
@@ -124,15 +124,10 @@ pub fn limited(b: Start, s: &[u8]) -> Start
     let mut out = [0u8; 1];
     decode(Form::Decimal, before_bar(after_bar(s)), &mut out);
     let old = b.state;
-    let was = old.settings;
-    let connection = old.connection;
-    let calling = old.calling;
-    let stored = Stored {
-        settings: was.with_value(1, out[0]),
-        connection,
-        connected: false,
-        calling,
-        forgets: false,
+    let setup = Setup {
+        settings: old.settings.with_value(1, out[0]),
+        calling: old.calling,
+        connection: old.connection,
     };
-    ready(with_stored(old, stored))
+    ready(with_stored(old, setup.keep()))
 }

@@ -1,5 +1,5 @@
 -- What one byte of each stream does: the state after it, and what goes to the line, to the host and to the TU.
-use Rattle.std.specs.Prelude.{ℕ, Bool, true, cond, List, [], ◌∷◌, take}
+use Rattle.std.specs.Prelude.{ℕ, Bool, true, cond, List, [], ◌∷◌}
 use Rattle.code.specs.Rows.{row_at}
 use Rattle.code.specs.Kinds.{kind_of}
 use Rattle.message.specs.Message.{framed}
@@ -42,7 +42,7 @@ texted s out = sends s (text s.settings (route s.connection Host) (text_of out))
 
 -- commands work in every mode; the answer goes to the host
 abbrev pub obeys : State → Outcome → Step
-obeys s o = record { state = with_stored s o.stored; line = []; host = framed (take o.count o.numbers); tu = [] }
+obeys s o = record { state = with_stored s o.stored; line = []; host = framed o.numbers; tu = [] }
 
 -- what the command reader made of the byte; a finished command's fields stand in the reader before it
 abbrev pub hosted : State → List ℕ → Out → Step

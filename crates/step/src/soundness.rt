@@ -6,7 +6,7 @@ use crate::State;
 use crate::states::fresh_sender;
 use code::Case;
 use command::Reader;
-use settings::Connection;
+use settings::{Connection, Setup};
 
 // The box as it is switched on: factory settings, mode 11, nothing held, the motor off.
 pub fn fresh() -> State
@@ -32,10 +32,10 @@ pub fn fresh() -> State
 pub fn is_sound(s: State) -> bool
     ensures { result ≡ sound s }
 {
-    let settings = s.settings;
-    let calling = s.calling;
-    let connection = s.connection;
-    let reader = s.reader;
-    let motor = s.motor;
-    settings::is_sound(settings, calling, connection) & (reader.is_sound() & motor::is_sound(motor))
+    let setup = Setup {
+        settings: s.settings,
+        calling: s.calling,
+        connection: s.connection,
+    };
+    setup.is_sound() & (s.reader.is_sound() & motor::is_sound(s.motor))
 }

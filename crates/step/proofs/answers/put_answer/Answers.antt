@@ -1,5 +1,4 @@
--- `step::answers::put_answer` meets its contract: the command does what its definition says, and its answer has at most ten numbers.
-use Rattle.settings.proofs.Sent.{answers_short}
+-- `step::answers::put_answer` meets its contract: the command does what its definition says.
 use Rattle.settings.proofs.Written.{commanded_lasts}
 use Rattle.step.proofs.Answered.{made_puts}
 use Rattle.step.proofs.answers.put_answer.Goals as goal
@@ -9,12 +8,7 @@ with_stored-next-requires c =
     let a = c.args in
     rw c.run-o.ensures (commanded_lasts a.s.settings a.s.calling a.s.connection a.v a.count a.fields)
 
-pub make_first-made-requires : goal.make_first-made-requires
-make_first-made-requires c =
-    let a = c.args in
-    rw c.run-o.ensures (answers_short a.s.settings a.s.calling a.s.connection c.requires a.v a.count a.fields c.well_formed.1.1.1.0.1.0.1).few
-
 pub returns : goal.returns
 returns c =
-    let m = rw c.run-o.ensures at c.make_first-made.ensures in
+    let m = rw (c.as_slice.ensures, c.run-o.ensures) at c.make-made.ensures in
     rw (c.with_stored-next.ensures, c.run-o.ensures) (made_puts _ _ _ _ _ m _ _ c.is_some.ensures c.unwrap_or.ensures)
