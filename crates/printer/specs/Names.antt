@@ -4,6 +4,5 @@ pub use Rattle.code.specs.declared.Case.TheVariants.{Letters, Figures}
 pub use Rattle.code.specs.declared.Kind.{Kind}
 pub use Rattle.code.specs.declared.Kind.TheVariants.{Still, Space, Return, Shift, Char}
 pub use Rattle.printer.specs.declared.Printer.{Printer}
-pub use Rattle.printer.specs.declared.Place.{Place}
-pub use Rattle.printer.specs.declared.Place.TheVariants.{Nowhere, At}
+pub use Rattle.std.specs.Prelude.{Option, Some, None}
 pub use Rattle.printer.specs.declared.Mark.{Mark}

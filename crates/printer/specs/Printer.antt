@@ -1,6 +1,6 @@
 -- The printer holds a case and a count of places since its last return, with no right stop.
 use Rattle.std.specs.Prelude.{ℕ, ◌+◌, Bool, true, false, List, [], ◌∷◌, ◌++◌}
-use Rattle.printer.specs.Names.{Case, Letters, Kind, Still, Space, Return, Shift, Char, Printer, Place, Nowhere, At, Mark}
+use Rattle.printer.specs.Names.{Case, Letters, Kind, Still, Space, Return, Shift, Char, Printer, Mark, Option, Some, None}
 use Rattle.code.specs.Rows.{row_at}
 use Rattle.code.specs.Kinds.{kind_of, strikes, moves}
 
@@ -47,9 +47,9 @@ from case n onspace onreturn = record { case = case; count = n; onspace = onspac
 -- What is printed.
 
 -- a space or struck character lands at the count before it
-abbrev pub landing : Bool → ℕ → Place
-landing true n = At n
-landing false n = Nowhere
+abbrev pub landing : Bool → ℕ → Option ℕ
+landing true n = Some n
+landing false n = None
 
 -- the two rows say what a code prints
 abbrev pub mark_as : Kind → Case → ℕ → ℕ → Mark

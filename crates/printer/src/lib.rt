@@ -12,16 +12,9 @@ pub struct Printer {
     pub onreturn: bool,
 }
 
-// Where a character lands, if it does.
-#[derive(Clone, Copy)]
-pub enum Place {
-    Nowhere,
-    At(u64),
-}
-
-// A character on the paper.
+// A character on the paper, and where it lands, if it does.
 #[derive(Clone, Copy)]
 pub struct Mark {
     pub character: u8,
-    pub lands: Place,
+    pub lands: Option<u64>,
 }

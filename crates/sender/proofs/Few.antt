@@ -10,32 +10,31 @@ use lib.ListN.{length, length-append}
 use Rattle.code.specs.Kinds.{kind_of, shifts, moves}
 use Rattle.settings.specs.Options.{onspace, onreturn, filter, ending_codes}
 use Rattle.settings.proofs.Held.{eight_codes}
-use Rattle.sender.specs.Names.{Case, Letters, Figures, Kind, Still, Space, Return, Shift, Char, Conversion, Nothing, Free, Cased, Settings, Known, Is, Record, Wanted, Sender, Text}
-use Rattle.sender.specs.Names.known
+use Rattle.sender.specs.Names.{Case, Letters, Figures, Kind, Still, Space, Return, Shift, Char, Conversion, Nothing, Free, Cased, Settings, Record, Wanted, Sender, Text, Option, Some, None}
 use Rattle.sender.specs.Record.{notes}
 use Rattle.sender.specs.Code.{shift_to, unshift, send_kind, send_as}
 use Rattle.sender.specs.Ending.{on_record, ending_code, ending_of, until_zero, due, ending, ending_before}
 use Rattle.sender.specs.Item.{character, last_of, repeats, item, items, wanted, wanted_of, converted, wanted_by, wanted_text}
 
-shift_length : (n : Known) (want : Case) → length (shifts (shift_to n want)) ≤ 1
-shift_length known.Unknown want = omega arith
-shift_length (Is Letters) Letters = omega arith
-shift_length (Is Letters) Figures = omega arith
-shift_length (Is Figures) Letters = omega arith
-shift_length (Is Figures) Figures = omega arith
+shift_length : (n : Option Case) (want : Case) → length (shifts (shift_to n want)) ≤ 1
+shift_length None want = omega arith
+shift_length (Some Letters) Letters = omega arith
+shift_length (Some Letters) Figures = omega arith
+shift_length (Some Figures) Letters = omega arith
+shift_length (Some Figures) Figures = omega arith
 
-unshift_length : (b : Bool) (n : Known) → length (shifts (unshift b n)) ≤ 1
+unshift_length : (b : Bool) (n : Option Case) → length (shifts (unshift b n)) ≤ 1
 unshift_length true n = shift_length n Letters
 unshift_length false n = omega arith
 
-pub kind_length : (o : Settings) (n : Known) (want : Case) (c : ℕ) (k : Kind) → length (send_kind o n want k c) ≤ 2
+pub kind_length : (o : Settings) (n : Option Case) (want : Case) (c : ℕ) (k : Kind) → length (send_kind o n want k c) ≤ 2
 kind_length o n want c Still = omega arith
 kind_length o n want c Space = omega (arith, unshift_length (onspace o) n)
 kind_length o n want c Return = omega (arith, unshift_length (onreturn o) n)
 kind_length o n want c (Shift to) = omega arith
 kind_length o n want c (Char bell) = rw (length-append (shifts (shift_to n want)) (c ∷ [])) (omega (arith, shift_length n want))
 
-pub code_length : (o : Settings) (n : Known) (want : Case) (c : ℕ) → length (send_as o n want c) ≤ 2
+pub code_length : (o : Settings) (n : Option Case) (want : Case) (c : ℕ) → length (send_as o n want c) ≤ 2
 code_length o n want c = kind_length o n want c (kind_of c)
 
 ending_length : (o : Settings) (r : Record) (cs : List ℕ) → length (ending_of o r cs) ≤ 2 * length cs

@@ -11,7 +11,7 @@ use Rattle.laws.specs.Written.{Filled}
 use Rattle.laws.proofs.Filled.{filled_none, filled_on}
 use Rattle.code.specs.Kinds.{kind_of, moves}
 use Rattle.settings.specs.Options.{filter}
-use Rattle.sender.specs.Names.{Kind, Settings, Record, Last, Wanted, Sender, Noted}
+use Rattle.sender.specs.Names.{Case, Kind, Settings, Record, Wanted, Sender, Noted, Option}
 use Rattle.sender.specs.Record.{notes}
 use Rattle.sender.specs.Code.{send_kind}
 use Rattle.sender.specs.Ending.{due, ending}
@@ -53,7 +53,7 @@ module _ (o : Settings) (r : Record) (w : Wanted) (k : Kind) (q : k ≡ kind_of 
   pub ending_room : (n : ℕ) → length (character o r w) ≤ n → length b ≤ n
   ending_room n h = omega (arith, h, ap length (character_codes (notes o r b) refl), length-append b (send_kind o (notes o r b).case w.case k w.code))
 
-module _ (o : Settings) (s : Sender) (w : Wanted) (k : Kind) (last : Last) (p : k ≡ kind_of w.code) (q : last ≡ last_of k) where
+module _ (o : Settings) (s : Sender) (w : Wanted) (k : Kind) (last : Option Case) (p : k ≡ kind_of w.code) (q : last ≡ last_of k) where
   -- dropped
   module _ (e : (repeats last s.last && filter o) ≡ true) where
     dropped : (repeats (last_of (kind_of w.code)) s.last && filter o) ≡ true

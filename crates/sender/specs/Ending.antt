@@ -2,18 +2,16 @@
 use Rattle.std.specs.Prelude.{ℕ, Bool, true, false, cond, ◌&&◌, List, [], ◌∷◌, ◌++◌, eqb, leb}
 use Rattle.code.specs.Kinds.{kind_of, moves}
 use Rattle.settings.specs.Options.{endings, limit, ending_codes}
-use Rattle.sender.specs.Names.{Case, Letters, Settings, Known, Is, Column, At, Record, Wanted}
-use Rattle.sender.specs.Names.known
-use Rattle.sender.specs.Names.column
+use Rattle.sender.specs.Names.{Case, Letters, Settings, Record, Wanted, Option, Some, None}
 use Rattle.sender.specs.Record.{notes}
 use Rattle.sender.specs.Code.{send_as}
 
 -- its codes go in whatever case is on record; while that is unknown, a code that depends on case is preceded by LTRS
-abbrev pub on_record : Known → Case
-on_record known.Unknown = Letters
-on_record (Is case) = case
+abbrev pub on_record : Option Case → Case
+on_record None = Letters
+on_record (Some case) = case
 
-abbrev pub ending_code : Settings → Known → ℕ → List ℕ
+abbrev pub ending_code : Settings → Option Case → ℕ → List ℕ
 ending_code o n c = send_as o n (on_record n) c
 
 abbrev pub ending_of : Settings → Record → List ℕ → List ℕ
@@ -26,9 +24,9 @@ until_zero [] = []
 until_zero (c ∷ cs) = cond (eqb c 0) [] (c ∷ until_zero cs)
 
 -- the column is known and not below the limit
-abbrev pub due : Settings → Column → Bool
-due o column.Unknown = false
-due o (At n) = endings o && leb (limit o) n
+abbrev pub due : Settings → Option ℕ → Bool
+due o None = false
+due o (Some n) = endings o && leb (limit o) n
 
 abbrev pub ending : Settings → Record → Bool → List ℕ
 ending o r true = ending_of o r (until_zero (ending_codes o))

@@ -3,8 +3,7 @@ use Rattle.std.specs.Prelude.{ℕ, Bool, false, cond, ◌&&◌, List, [], ◌∷
 use Rattle.code.specs.Kinds.{kind_of}
 use Rattle.code.specs.Convert.{conversion}
 use Rattle.settings.specs.Options.{filter, stand_in}
-use Rattle.sender.specs.Names.{Case, Letters, Kind, Still, Space, Return, Shift, Char, Conversion, Nothing, Free, Cased, Settings, Record, Last, Wanted, Sender, Asks, Text, Codes}
-use Rattle.sender.specs.Names.last
+use Rattle.sender.specs.Names.{Case, Letters, Kind, Still, Space, Return, Shift, Char, Conversion, Nothing, Free, Cased, Settings, Record, Wanted, Sender, Asks, Text, Codes, Option, Some, None}
 use Rattle.sender.specs.Record.{unknown, notes}
 use Rattle.sender.specs.Code.{same_case, send_as}
 use Rattle.sender.specs.Ending.{ending_before}
@@ -13,18 +12,18 @@ use Rattle.sender.specs.Ending.{ending_before}
 abbrev pub character : Settings → Record → Wanted → List ℕ
 character o r w = ending_before o r w ++ send_as o (notes o r (ending_before o r w)).case w.case w.code
 
-abbrev pub last_of : Kind → Last
-last_of Still = last.Other
-last_of Space = last.Other
-last_of Return = last.Other
-last_of (Shift to) = last.Shift to
-last_of (Char bell) = last.Other
+abbrev pub last_of : Kind → Option Case
+last_of Still = None
+last_of Space = None
+last_of Return = None
+last_of (Shift to) = Some to
+last_of (Char bell) = None
 
 -- a shift, and the item just before it was the same shift
-abbrev pub repeats : Last → Last → Bool
-repeats last.Other before = false
-repeats (last.Shift to) last.Other = false
-repeats (last.Shift to) (last.Shift before) = same_case to before
+abbrev pub repeats : Option Case → Option Case → Bool
+repeats None before = false
+repeats (Some to) None = false
+repeats (Some to) (Some before) = same_case to before
 
 -- option 72 drops it
 abbrev pub item : Settings → Sender → Wanted → List ℕ
@@ -44,7 +43,7 @@ after_items o s (w ∷ ws) = after_items o (after_item o s w) ws
 
 -- on connection
 abbrev pub fresh : Sender
-fresh = record { held = unknown; last = last.Other }
+fresh = record { held = unknown; last = None }
 
 -- What is asked for.
 

@@ -4,54 +4,23 @@ ghost use Rattle.laws.specs.Written.{Filled};
 ghost use Rattle.word.specs.Word.{unpacked};
 ghost use Rattle.code.specs.Kinds.{shifts};
 ghost use Rattle.sender.specs.Names.{Letters as Names-as-Letters};
-ghost use Rattle.sender.specs.Code.{same_case, is_case, shift_to, unshift, follow, send_kind};
+ghost use Rattle.sender.specs.Code.{shift_to, unshift, follow, send_kind};
 ghost use Rattle.sender.specs.Ending.{on_record, ending_of, until_zero};
 ghost use Rattle.sender.specs.Run.{Notes};
 
-use crate::records::after;
-use crate::{Known, Noted, Record};
+use crate::{Noted, Record};
 use code::{Case, Kind};
 use settings::Settings;
 
-// Whether two cases are the same.
-pub fn same_case(a: Case, b: Case) -> bool
-    ensures { result ≡ same_case a b }
-{
-    match a {
-        Case::Letters => match b {
-            Case::Letters => true,
-            Case::Figures => false,
-        },
-        Case::Figures => match b {
-            Case::Letters => false,
-            Case::Figures => true,
-        },
-    }
-}
-
-// Whether the case on record is the wanted one.
-fn is_case(n: Known, want: Case) -> bool
-    ensures { result ≡ is_case n want }
-{
-    match n {
-        Known::Unknown => false,
-        Known::Is(case) => same_case(case, want),
-    }
-}
-
 // Whether LTRS follows a space or a return, by its option.
-fn is_unshifted(on: bool, n: Known) -> bool
+fn is_unshifted(on: bool, n: Option<Case>) -> bool
     ensures { unshift on n ≡ cond result (Names-as-Letters ∷ []) [] }
 {
-    if on {
-        !is_case(n, Case::Letters)
-    } else {
-        false
-    }
+    on && n != Some(Case::Letters)
 }
 
 // Whether LTRS follows a code of this kind.
-fn is_followed(o: Settings, n: Known, k: Kind) -> bool
+fn is_followed(o: Settings, n: Option<Case>, k: Kind) -> bool
     ensures { follow o n k ≡ cond result (Names-as-Letters ∷ []) [] }
 {
     match k {
@@ -64,11 +33,11 @@ fn is_followed(o: Settings, n: Known, k: Kind) -> bool
 }
 
 // A code that depends on case: the shift that it needs, and the code. How many they are.
-pub fn put_led(n: Known, want: Case, c: u8, out: &mut [u8]) -> usize
+pub fn put_led(n: Option<Case>, want: Case, c: u8, out: &mut [u8]) -> usize
     requires { length (shifts (shift_to n want) ++ c ∷ []) ≤ length out.old }
     ensures { Filled out.old out.new (shifts (shift_to n want) ++ c ∷ []) result }
 {
-    if is_case(n, want) {
+    if n == Some(want) {
         out[0] = c;
         return 1;
     }
@@ -78,7 +47,7 @@ pub fn put_led(n: Known, want: Case, c: u8, out: &mut [u8]) -> usize
 }
 
 // Any other code, and the LTRS that follows. How many they are.
-pub fn put_followed(o: Settings, n: Known, c: u8, k: Kind, out: &mut [u8]) -> usize
+pub fn put_followed(o: Settings, n: Option<Case>, c: u8, k: Kind, out: &mut [u8]) -> usize
     requires { length (c ∷ shifts (follow o n k)) ≤ length out.old }
     ensures { Filled out.old out.new (c ∷ shifts (follow o n k)) result }
 {
@@ -91,7 +60,7 @@ pub fn put_followed(o: Settings, n: Known, c: u8, k: Kind, out: &mut [u8]) -> us
 }
 
 // One code in its wanted case: the shift that it needs, the code, the LTRS that follows. How many they are.
-fn put_code(o: Settings, n: Known, want: Case, c: u8, k: Kind, out: &mut [u8]) -> usize
+fn put_code(o: Settings, n: Option<Case>, want: Case, c: u8, k: Kind, out: &mut [u8]) -> usize
     requires { length (send_kind o n want k c) ≤ length out.old }
     ensures { Filled out.old out.new (send_kind o n want k c) result }
 {
@@ -102,13 +71,10 @@ fn put_code(o: Settings, n: Known, want: Case, c: u8, k: Kind, out: &mut [u8]) -
 }
 
 // The case that a code of an ending is sent in: the one on record, letters while it is unknown.
-fn on_record(n: Known) -> Case
+fn on_record(n: Option<Case>) -> Case
     ensures { result ≡ on_record n }
 {
-    match n {
-        Known::Unknown => Case::Letters,
-        Known::Is(case) => case,
-    }
+    n.unwrap_or(Case::Letters)
 }
 
 // Whether a string of codes ends here, at its first 0.
@@ -136,7 +102,7 @@ pub fn put_ending(o: Settings, start: Record, string: u64, out: &mut [u8]) -> No
         let want = on_record(case);
         let k = code::kind_of(c);
         let n = put_code(o, case, want, c, k, &mut out[count..]);
-        held = after(o, held, want, k);
+        held = held.after(o, want, k);
         count += n;
         rest = rest / 32;
         left -= 1;

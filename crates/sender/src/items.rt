@@ -7,24 +7,20 @@ ghost use Rattle.sender.specs.Ending.{due, ending};
 ghost use Rattle.sender.specs.Item.{character, last_of, repeats, items};
 ghost use Rattle.sender.specs.Run.{Notes, PutsItems};
 
-use crate::codes::{put_ending, put_followed, put_led, same_case};
-use crate::records::after;
-use crate::{Column, Item, Last, Noted, Record, Sender, Wanted};
-use code::Kind;
+use crate::codes::{put_ending, put_followed, put_led};
+use crate::{Item, Noted, Record, Sender, Wanted};
+use code::{Case, Kind};
 use settings::Settings;
 
 // Whether an ending is due at this column.
-fn is_due(o: Settings, col: Column) -> bool
+fn is_due(o: Settings, col: Option<u8>) -> bool
     ensures { result ≡ due o col }
 {
-    match col {
-        Column::Unknown => false,
-        Column::At(n) => { if o.endings() { o.limit() <= n } else { false } }
-    }
+    col.is_some_and(|n| o.endings() && o.limit() <= n)
 }
 
 // Whether an ending goes before a code that moves the carriage or not.
-fn is_ended(o: Settings, col: Column, moves: bool) -> bool
+fn is_ended(o: Settings, col: Option<u8>, moves: bool) -> bool
     ensures { result ≡ (moves && due o col) }
 {
     moves & is_due(o, col)
@@ -70,7 +66,7 @@ fn put_dependent(o: Settings, held: Record, w: Wanted, bell: bool, out: &mut [u8
     let known = then.case;
     let m = put_led(known, case, c, &mut out[n..]);
     Noted {
-        held: after(o, then, case, Kind::Char(bell)),
+        held: then.after(o, case, Kind::Char(bell)),
         count: n + m,
     }
 }
@@ -88,7 +84,7 @@ fn put_free(o: Settings, held: Record, w: Wanted, k: Kind, out: &mut [u8]) -> No
     let noted = then.case;
     let codes = put_followed(o, noted, c, k, &mut out[n..]);
     Noted {
-        held: after(o, then, case, k),
+        held: then.after(o, case, k),
         count: n + codes,
     }
 }
@@ -105,40 +101,27 @@ fn put_character(o: Settings, held: Record, w: Wanted, k: Kind, out: &mut [u8]) 
 }
 
 // The item that a code of this kind is, as option 72 asks of it.
-fn last_of(k: Kind) -> Last
+fn last_of(k: Kind) -> Option<Case>
     ensures { result ≡ last_of k }
 {
     match k {
-        Kind::Still => Last::Other,
-        Kind::Space => Last::Other,
-        Kind::Return => Last::Other,
-        Kind::Shift(to) => Last::Shift(to),
-        Kind::Char(_) => Last::Other,
+        Kind::Shift(to) => Some(to),
+        Kind::Still | Kind::Space | Kind::Return | Kind::Char(_) => None,
     }
 }
 
 // Whether an item is a shift, and the one before it the same shift.
-fn repeats(this: Last, was: Last) -> bool
+fn repeats(this: Option<Case>, was: Option<Case>) -> bool
     ensures { result ≡ repeats this was }
 {
-    match this {
-        Last::Other => false,
-        Last::Shift(to) => match was {
-            Last::Other => false,
-            Last::Shift(other) => same_case(to, other),
-        },
-    }
+    this.is_some() && this == was
 }
 
 // Whether option 72 drops an item.
-fn is_dropped(o: Settings, this: Last, was: Last) -> bool
+fn is_dropped(o: Settings, this: Option<Case>, was: Option<Case>) -> bool
     ensures { result ≡ (repeats this was && filter o) }
 {
-    if repeats(this, was) {
-        o.filter()
-    } else {
-        false
-    }
+    repeats(this, was) && o.filter()
 }
 
 // One item.

@@ -10,32 +10,11 @@ pub mod readings;
 mod records;
 pub mod runs;
 
-// What the record says of the printer's case.
-#[derive(Clone, Copy)]
-pub enum Known {
-    Unknown,
-    Is(Case),
-}
-
-// What the record says of the printer's column, which stays at 255.
-#[derive(Clone, Copy)]
-pub enum Column {
-    Unknown,
-    At(u8),
-}
-
-// The record of the printer.
+// The record of the printer: its case and its column, where they are known. The column stays at 255.
 #[derive(Clone, Copy)]
 pub struct Record {
-    pub case: Known,
-    pub column: Column,
-}
-
-// The last item, as option 72 asks of it: a shift, or any other or none.
-#[derive(Clone, Copy)]
-pub enum Last {
-    Other,
-    Shift(Case),
+    pub case: Option<Case>,
+    pub column: Option<u8>,
 }
 
 // A code asked for, in a case.
@@ -45,11 +24,11 @@ pub struct Wanted {
     pub code: u8,
 }
 
-// The record and the last item.
+// The record, and the last item, as option 72 asks of it: the shift that it was, none for any other or none.
 #[derive(Clone, Copy)]
 pub struct Sender {
     pub held: Record,
-    pub last: Last,
+    pub last: Option<Case>,
 }
 
 // How the bytes of a stream ask for items: host text by its code or the stand-in's, TU codes in the incoming reading case.

@@ -4,35 +4,26 @@ ghost use Rattle.code.specs.Kinds.{strikes};
 ghost use Rattle.sender.specs.Record.{next};
 ghost use Rattle.sender.specs.After.{after_unshift, after};
 
-use crate::{Column, Known, Record};
+use crate::Record;
 use code::{Case, Kind};
 use settings::Settings;
 
 // The case on record after a space or a return.
-fn after_unshift(on: bool, n: Known) -> Known
+fn after_unshift(on: bool, n: Option<Case>) -> Option<Case>
     ensures { result ≡ after_unshift on n }
 {
-    if on { Known::Is(Case::Letters) } else { n }
+    if on { Some(Case::Letters) } else { n }
 }
 
 // The column one place on, staying at 255.
-fn next(col: Column) -> Column
+fn next(col: Option<u8>) -> Option<u8>
     ensures { result ≡ next col }
 {
-    match col {
-        Column::Unknown => Column::Unknown,
-        Column::At(n) => {
-            if n < 255 {
-                Column::At(n + 1)
-            } else {
-                Column::At(255)
-            }
-        }
-    }
+    col.map(|n| n.saturating_add(1))
 }
 
 // The column after a code that depends on case.
-fn after_char(bell: bool, want: Case, col: Column) -> Column
+fn after_char(bell: bool, want: Case, col: Option<u8>) -> Option<u8>
     ensures { result ≡ cond (strikes bell want) (next col) col }
 {
     if code::strikes(bell, want) {
@@ -42,29 +33,29 @@ fn after_char(bell: bool, want: Case, col: Column) -> Column
     }
 }
 
-// The record after a code of this kind in its wanted case.
-pub fn after(o: Settings, r: Record, want: Case, k: Kind) -> Record
-    ensures { result ≡ after o r want k }
-{
-    let n = r.case;
-    let col = r.column;
-    match k {
-        Kind::Still => r,
-        Kind::Space => Record {
-            case: after_unshift(o.onspace(), n),
-            column: next(col),
-        },
-        Kind::Return => Record {
-            case: after_unshift(o.onreturn(), n),
-            column: Column::At(0),
-        },
-        Kind::Shift(to) => Record {
-            case: Known::Is(to),
-            column: col,
-        },
-        Kind::Char(bell) => Record {
-            case: Known::Is(want),
-            column: after_char(bell, want, col),
-        },
+impl Record {
+    // The record after a code of this kind in its wanted case.
+    pub fn after(self, o: Settings, want: Case, k: Kind) -> Record
+        ensures { result ≡ after o self want k }
+    {
+        match k {
+            Kind::Still => self,
+            Kind::Space => Record {
+                case: after_unshift(o.onspace(), self.case),
+                column: next(self.column),
+            },
+            Kind::Return => Record {
+                case: after_unshift(o.onreturn(), self.case),
+                column: Some(0),
+            },
+            Kind::Shift(to) => Record {
+                case: Some(to),
+                ..self
+            },
+            Kind::Char(bell) => Record {
+                case: Some(want),
+                column: after_char(bell, want, self.column),
+            },
+        }
     }
 }
