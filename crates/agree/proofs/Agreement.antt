@@ -9,28 +9,26 @@ use Rattle.code.specs.Kinds.{kind_of, strikes}
 use Rattle.settings.specs.Options.{onspace, onreturn}
 use Rattle.printer.specs.Printer.{unshifted, hear_case, advanced, hear_count, hear_kind, hear, hears}
 use Rattle.sender.specs.Record.{unknown, note_unshift, note_case, next, note_char, note_column, note_kind, note, notes}
-use Rattle.agree.specs.Names.{Case, Letters, Figures, Kind, Still, Space, Return, Shift, Char, Settings, Printer, Known, Is, Column, At, Record}
-use Rattle.agree.specs.Names.known
-use Rattle.agree.specs.Names.column
+use Rattle.agree.specs.Names.{Case, Letters, Figures, Kind, Still, Space, Return, Shift, Char, Settings, Printer, Record, Option, Some, None}
 use Rattle.agree.specs.Agrees.{CaseAgrees, ColumnAgrees, Agrees, ObeysAt, Obeys}
 
-unshift_kept : (own option : Bool) (n : Known) (case : Case) → (own ≡ true → option ≡ true) → CaseAgrees n case → CaseAgrees (note_unshift option n) (unshifted own case)
+unshift_kept : (own option : Bool) (n : Option Case) (case : Case) → (own ≡ true → option ≡ true) → CaseAgrees n case → CaseAgrees (note_unshift option n) (unshifted own case)
 unshift_kept false false n case obeys a = a
 unshift_kept true false n case obeys a = absurd (false≢true (obeys refl))
-unshift_kept own true known.Unknown case obeys a = tt
-unshift_kept own true (Is Figures) case obeys a = tt
-unshift_kept false true (Is Letters) case obeys a = a
-unshift_kept true true (Is Letters) case obeys a = refl
+unshift_kept own true None case obeys a = tt
+unshift_kept own true (Some Figures) case obeys a = tt
+unshift_kept false true (Some Letters) case obeys a = a
+unshift_kept true true (Some Letters) case obeys a = refl
 
-next_kept : (col : Column) (count : ℕ) → ColumnAgrees col count → ColumnAgrees (next col) (count + 1)
-next_kept column.Unknown count a = tt
-next_kept (At n) count a = omega arith
+next_kept : (col : Option ℕ) (count : ℕ) → ColumnAgrees col count → ColumnAgrees (next col) (count + 1)
+next_kept None count a = tt
+next_kept (Some n) count a = omega arith
 
-char_kept : (bell : Bool) (n : Known) (case : Case) (col : Column) (count : ℕ) → CaseAgrees n case → ColumnAgrees col count → ColumnAgrees (note_char bell n col) (advanced (strikes bell case) count)
+char_kept : (bell : Bool) (n : Option Case) (case : Case) (col : Option ℕ) (count : ℕ) → CaseAgrees n case → ColumnAgrees col count → ColumnAgrees (note_char bell n col) (advanced (strikes bell case) count)
 char_kept false n case col count a b = next_kept col count b
-char_kept true known.Unknown case col count a b = tt
-char_kept true (Is Letters) case col count a b = rw (← a) (next_kept col count b)
-char_kept true (Is Figures) case col count a b = rw (← a) b
+char_kept true None case col count a b = tt
+char_kept true (Some Letters) case col count a b = rw (← a) (next_kept col count b)
+char_kept true (Some Figures) case col count a b = rw (← a) b
 
 module _ (o : Settings) (r : Record) (p : Printer) (a : Agrees r p) where
   case_kept : (k : Kind) → ObeysAt o p k → CaseAgrees (note_case o r.case k) (hear_case p k)

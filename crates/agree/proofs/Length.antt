@@ -16,8 +16,7 @@ use Rattle.sender.specs.Ending.{on_record, ending_code, ending_of, until_zero, d
 use Rattle.sender.specs.Item.{character, last_of, item, after_item, items, wanted, wanted_of}
 use Rattle.sender.specs.After.{after_unshift, after_case}
 use Rattle.sender.proofs.Append.{notes_append}
-use Rattle.agree.specs.Names.{Case, Letters, Figures, Kind, Still, Space, Return, Shift, Char, Conversion, Cased, Settings, Known, Is, Record, Wanted, Sender}
-use Rattle.agree.specs.Names.known
+use Rattle.agree.specs.Names.{Case, Letters, Figures, Kind, Still, Space, Return, Shift, Char, Conversion, Cased, Settings, Record, Wanted, Sender, Option, Some, None}
 use Rattle.sender.proofs.After.{record_after}
 use Rattle.sender.proofs.Few.{code_length, wanted_few}
 use Rattle.agree.proofs.Folds.{item_cases}
@@ -26,35 +25,35 @@ use Rattle.agree.proofs.Home.{Sound, sound}
 use Rattle.agree.proofs.Margin.{due_ends, low_not_due}
 
 -- whether a code may be added: not while the case is known to be letters
-abbrev unsure : Known → ℕ
-unsure known.Unknown = 1
-unsure (Is Letters) = 0
-unsure (Is Figures) = 1
+abbrev unsure : Option Case → ℕ
+unsure None = 1
+unsure (Some Letters) = 0
+unsure (Some Figures) = 1
 
-unsure_most : (n : Known) → unsure n ≤ 1
-unsure_most known.Unknown = omega arith
-unsure_most (Is Letters) = omega arith
-unsure_most (Is Figures) = omega arith
+unsure_most : (n : Option Case) → unsure n ≤ 1
+unsure_most None = omega arith
+unsure_most (Some Letters) = omega arith
+unsure_most (Some Figures) = omega arith
 
-abbrev Paid : Known → List ℕ → Known → Type 0
+abbrev Paid : Option Case → List ℕ → Option Case → Type 0
 Paid n cs then = 2 * length cs + unsure then ≤ 3 + unsure n
 
-paid_unshift : (b : Bool) (n : Known) (c : ℕ) → Paid n (c ∷ shifts (unshift b n)) (after_unshift b n)
+paid_unshift : (b : Bool) (n : Option Case) (c : ℕ) → Paid n (c ∷ shifts (unshift b n)) (after_unshift b n)
 paid_unshift false n c = omega arith
-paid_unshift true known.Unknown c = omega arith
-paid_unshift true (Is Letters) c = omega arith
-paid_unshift true (Is Figures) c = omega arith
+paid_unshift true None c = omega arith
+paid_unshift true (Some Letters) c = omega arith
+paid_unshift true (Some Figures) c = omega arith
 
-paid_shift : (n : Known) (c : ℕ) → Paid n (shifts (shift_to n (on_record n)) ++ c ∷ []) (Is (on_record n))
-paid_shift known.Unknown c = omega arith
-paid_shift (Is Letters) c = omega arith
-paid_shift (Is Figures) c = omega arith
+paid_shift : (n : Option Case) (c : ℕ) → Paid n (shifts (shift_to n (on_record n)) ++ c ∷ []) (Some (on_record n))
+paid_shift None c = omega arith
+paid_shift (Some Letters) c = omega arith
+paid_shift (Some Figures) c = omega arith
 
-paid_kind : (o : Settings) (n : Known) (c : ℕ) (k : Kind) → Paid n (send_kind o n (on_record n) k c) (after_case o n (on_record n) k)
+paid_kind : (o : Settings) (n : Option Case) (c : ℕ) (k : Kind) → Paid n (send_kind o n (on_record n) k c) (after_case o n (on_record n) k)
 paid_kind o n c Still = omega arith
 paid_kind o n c Space = paid_unshift (onspace o) n c
 paid_kind o n c Return = paid_unshift (onreturn o) n c
-paid_kind o n c (Shift to) = omega (arith, unsure_most (Is to))
+paid_kind o n c (Shift to) = omega (arith, unsure_most (Some to))
 paid_kind o n c (Char bell) = paid_shift n c
 
 paid : (o : Settings) (r : Record) (c : ℕ) → Paid r.case (ending_code o r.case c) (notes o r (ending_code o r.case c)).case

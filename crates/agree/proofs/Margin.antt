@@ -16,8 +16,7 @@ use Rattle.sender.specs.Record.{notes}
 use Rattle.sender.specs.Code.{send_as}
 use Rattle.sender.specs.Ending.{ending_of, until_zero, due, ending, ending_before}
 use Rattle.sender.specs.Item.{character, item, after_item, items}
-use Rattle.agree.specs.Names.{Case, Kind, Still, Space, Return, Shift, Char, Settings, Printer, Mark, Column, At, Record, Wanted, Sender}
-use Rattle.agree.specs.Names.column
+use Rattle.agree.specs.Names.{Case, Kind, Still, Space, Return, Shift, Char, Settings, Printer, Mark, Record, Wanted, Sender, Option, Some, None}
 use Rattle.agree.specs.Agrees.{ColumnAgrees, Agrees, Obeys}
 use Rattle.agree.specs.Margin.{LandsBelow, Below}
 use Rattle.agree.specs.Sure.{ColumnSure}
@@ -84,22 +83,22 @@ home_below limit m room (c ∷ cs) h p = go (kind_of c) refl h (home_below limit
 -- The character after the ending.
 
 -- below the limit on record is below it on the printer
-count_below : (limit : ℕ) (col : Column) (count : ℕ) → limit ≤ 80 → ColumnSure col → ColumnAgrees col count → places col < limit → count < limit
-count_below limit column.Unknown count most sure a h = absurd sure
-count_below limit (At n) count most sure a h = omega arith
+count_below : (limit : ℕ) (col : Option ℕ) (count : ℕ) → limit ≤ 80 → ColumnSure col → ColumnAgrees col count → places col < limit → count < limit
+count_below limit None count most sure a h = absurd sure
+count_below limit (Some n) count most sure a h = omega arith
 
 module _ (o : Settings) (t : Sound o) where
-  not_due : (col : Column) → endings o ≡ true → due o col ≡ false → places col < limit o
-  not_due column.Unknown on h = omega (arith, t.least)
-  not_due (At n) on h = leb-false (limit o) n (rw on at h)
+  not_due : (col : Option ℕ) → endings o ≡ true → due o col ≡ false → places col < limit o
+  not_due None on h = omega (arith, t.least)
+  not_due (Some n) on h = leb-false (limit o) n (rw on at h)
 
   -- after the ending that is due, no other is
   pub due_ends : (r : Record) → places (notes o r (ending o r true)).column ≤ 7
   due_ends r = home_column 7 o (ending_of o r (until_zero (ending_codes o))) (t.home r) r
 
-  pub low_not_due : (col : Column) → places col < limit o → due o col ≡ false
-  low_not_due column.Unknown h = refl
-  low_not_due (At n) h = rw (lt-leb (limit o) n h) (and-false (endings o))
+  pub low_not_due : (col : Option ℕ) → places col < limit o → due o col ≡ false
+  low_not_due None h = refl
+  low_not_due (Some n) h = rw (lt-leb (limit o) n h) (and-false (endings o))
 
   module _ (on : endings o ≡ true) (r : Record) (w : Wanted) where
     below_limit : moves w.case (kind_of w.code) ≡ true → places (notes o r (ending_before o r w)).column < limit o

@@ -8,18 +8,17 @@ use Rattle.code.proofs.Laws.{kind_shift, alike}
 use Rattle.settings.specs.Options.{onspace, onreturn}
 use Rattle.printer.specs.Printer.{hear_kind, from, mark_as, prints_as, prints_all}
 use Rattle.sender.specs.Code.{shift_to, unshift, send_kind, send_as}
-use Rattle.agree.specs.Names.{Case, Letters, Figures, Kind, Still, Space, Return, Shift, Char, Settings, Printer, Known, Is, Record}
-use Rattle.agree.specs.Names.known
+use Rattle.agree.specs.Names.{Case, Letters, Figures, Kind, Still, Space, Return, Shift, Char, Settings, Printer, Record, Option, Some, None}
 use Rattle.agree.specs.Agrees.{CaseAgrees, Agrees}
 use Rattle.agree.proofs.Folds.{prints_shifts}
 
 -- the shift that goes first prints nothing, and the printer is then in the wanted case
-shift_turns : (n : Known) (want : Case) (p : Printer) (cs : List ℕ) → CaseAgrees n p.case → prints_all p (shifts (shift_to n want) ++ cs) ≡ prints_all (from want p.count p.onspace p.onreturn) cs
-shift_turns known.Unknown want p cs a = rw (kind_shift want)
-shift_turns (Is Letters) Letters p cs a = rw a
-shift_turns (Is Letters) Figures p cs a = rw (kind_shift Figures)
-shift_turns (Is Figures) Letters p cs a = rw (kind_shift Letters)
-shift_turns (Is Figures) Figures p cs a = rw a
+shift_turns : (n : Option Case) (want : Case) (p : Printer) (cs : List ℕ) → CaseAgrees n p.case → prints_all p (shifts (shift_to n want) ++ cs) ≡ prints_all (from want p.count p.onspace p.onreturn) cs
+shift_turns None want p cs a = rw (kind_shift want)
+shift_turns (Some Letters) Letters p cs a = rw a
+shift_turns (Some Letters) Figures p cs a = rw (kind_shift Figures)
+shift_turns (Some Figures) Letters p cs a = rw (kind_shift Letters)
+shift_turns (Some Figures) Figures p cs a = rw a
 
 -- a code in its wanted case prints as that case's row says; the shifts around it print nothing
 pub code_prints : (o : Settings) (r : Record) (p : Printer) (want : Case) (c : ℕ) → Agrees r p → prints_all p (send_as o r.case want c) ≡ prints_as (kind_of c) (mark_as (kind_of c) want p.count c)

@@ -14,8 +14,7 @@ use Rattle.sender.specs.Ending.{on_record, ending_code, ending_of, until_zero, d
 use Rattle.sender.specs.Item.{item, after_item, items, after_items}
 use Rattle.sender.specs.After.{after_unshift, after_case, after_column}
 use Rattle.sender.proofs.Append.{notes_append}
-use Rattle.agree.specs.Names.{Case, Kind, Still, Space, Return, Shift, Char, Settings, Known, Column, At, Record, Wanted, Sender}
-use Rattle.agree.specs.Names.column
+use Rattle.agree.specs.Names.{Case, Kind, Still, Space, Return, Shift, Char, Settings, Record, Wanted, Sender, Option, Some, None}
 use Rattle.agree.specs.Sure.{ColumnSure, CaseSure, is_return, is_cased, holds}
 use Rattle.sender.proofs.After.{record_after}
 use Rattle.agree.proofs.Folds.{item_cases, items_noted}
@@ -60,11 +59,11 @@ module _ (o : Settings) (K : Record → Type 0) (f : Kind → Bool) (code : (r :
 
 -- The column: a return tells it.
 
-next_sure : (col : Column) → ColumnSure col → ColumnSure (next col)
-next_sure column.Unknown f = f
-next_sure (At n) f = tt
+next_sure : (col : Option ℕ) → ColumnSure col → ColumnSure (next col)
+next_sure None f = f
+next_sure (Some n) f = tt
 
-char_sure : (b : Bool) (col : Column) → ColumnSure col → ColumnSure (cond b (next col) col)
+char_sure : (b : Bool) (col : Option ℕ) → ColumnSure col → ColumnSure (cond b (next col) col)
 char_sure true col f = next_sure col f
 char_sure false col f = f
 
@@ -73,7 +72,7 @@ shifts_silent [] = refl
 shifts_silent (to ∷ ts) = rw (kind_shift to, shifts_silent ts)
 
 -- a code sent returns if it is a return, for its shifts do not
-code_returns : (o : Settings) (n : Known) (want : Case) (c : ℕ) → holds is_return (send_as o n want c) ≡ is_return (kind_of c)
+code_returns : (o : Settings) (n : Option Case) (want : Case) (c : ℕ) → holds is_return (send_as o n want c) ≡ is_return (kind_of c)
 code_returns o n want c = go (kind_of c) refl
   where
     go : (k : Kind) → kind_of c ≡ k → holds is_return (send_kind o n want k c) ≡ is_return k

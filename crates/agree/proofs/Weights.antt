@@ -13,9 +13,7 @@ use Rattle.printer.specs.Printer.{advanced, hear_count}
 use Rattle.sender.specs.Record.{next, note_char, note_column, note, notes}
 use Rattle.sender.specs.Code.{shift_to, unshift, send_kind, send_as}
 use Rattle.sender.specs.Ending.{on_record, ending_code, ending_of}
-use Rattle.agree.specs.Names.{Case, Letters, Figures, Kind, Still, Space, Return, Shift, Char, Settings, Printer, Known, Is, Column, At, Record}
-use Rattle.agree.specs.Names.known
-use Rattle.agree.specs.Names.column
+use Rattle.agree.specs.Names.{Case, Letters, Figures, Kind, Still, Space, Return, Shift, Char, Settings, Printer, Record, Option, Some, None}
 
 -- what a code moves the carriage at most
 abbrev pub weight_at : Kind → ℕ
@@ -39,7 +37,7 @@ pub weight_shifts : (ts : List Case) → weight (shifts ts) ≡ 0
 weight_shifts [] = refl
 weight_shifts (to ∷ ts) = rw (kind_shift to, weight_shifts ts)
 
-pub weight_code : (o : Settings) (n : Known) (want : Case) (c : ℕ) → weight (send_as o n want c) ≤ 1
+pub weight_code : (o : Settings) (n : Option Case) (want : Case) (c : ℕ) → weight (send_as o n want c) ≤ 1
 weight_code o n want c = go (kind_of c) refl
   where
     go : (k : Kind) → kind_of c ≡ k → weight (send_kind o n want k c) ≤ 1
@@ -69,21 +67,21 @@ count_by p (Shift to) = omega arith
 count_by p (Char bell) = advanced_by (strikes bell p.case) p.count
 
 -- no ending is due while the column is unknown
-abbrev pub places : Column → ℕ
-places column.Unknown = 0
-places (At n) = n
+abbrev pub places : Option ℕ → ℕ
+places None = 0
+places (Some n) = n
 
-next_by : (col : Column) → places (next col) ≤ places col + 1
-next_by column.Unknown = omega arith
-next_by (At n) = omega arith
+next_by : (col : Option ℕ) → places (next col) ≤ places col + 1
+next_by None = omega arith
+next_by (Some n) = omega arith
 
-char_by : (bell : Bool) (n : Known) (col : Column) → places (note_char bell n col) ≤ places col + 1
+char_by : (bell : Bool) (n : Option Case) (col : Option ℕ) → places (note_char bell n col) ≤ places col + 1
 char_by false n col = next_by col
-char_by true known.Unknown col = omega arith
-char_by true (Is Letters) col = next_by col
-char_by true (Is Figures) col = omega arith
+char_by true None col = omega arith
+char_by true (Some Letters) col = next_by col
+char_by true (Some Figures) col = omega arith
 
-column_by : (n : Known) (col : Column) (k : Kind) → places (note_column n col k) ≤ places col + weight_at k
+column_by : (n : Option Case) (col : Option ℕ) (k : Kind) → places (note_column n col k) ≤ places col + weight_at k
 column_by n col Still = omega arith
 column_by n col Space = next_by col
 column_by n col Return = omega arith

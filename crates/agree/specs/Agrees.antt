@@ -3,19 +3,17 @@ use Rattle.std.specs.Prelude.{ℕ, min, ◌≡◌, true, List, [], ◌∷◌}
 use Rattle.code.specs.Kinds.{kind_of}
 use Rattle.settings.specs.Options.{onspace, onreturn}
 use Rattle.printer.specs.Printer.{hear}
-use Rattle.agree.specs.Names.{Case, Kind, Still, Space, Return, Shift, Char, Settings, Printer, Known, Is, Column, At, Record}
-use Rattle.agree.specs.Names.known
-use Rattle.agree.specs.Names.column
+use Rattle.agree.specs.Names.{Case, Kind, Still, Space, Return, Shift, Char, Settings, Printer, Record, Option, Some, None}
 
 -- a known case is the printer's
-abbrev pub CaseAgrees : Known → Case → Type 0
-CaseAgrees known.Unknown case = Unit {0}
-CaseAgrees (Is c) case = c ≡ case
+abbrev pub CaseAgrees : Option Case → Case → Type 0
+CaseAgrees None case = Unit {0}
+CaseAgrees (Some c) case = c ≡ case
 
 -- a known column is the count of places, staying at 255
-abbrev pub ColumnAgrees : Column → ℕ → Type 0
-ColumnAgrees column.Unknown count = Unit {0}
-ColumnAgrees (At n) count = n ≡ min 255 count
+abbrev pub ColumnAgrees : Option ℕ → ℕ → Type 0
+ColumnAgrees None count = Unit {0}
+ColumnAgrees (Some n) count = n ≡ min 255 count
 
 pub record Agrees (r : Record) (p : Printer) : Type 0 where
   pub case : CaseAgrees r.case p.case

@@ -1,12 +1,11 @@
 -- What the margin asks of the marks on the paper.
 use Rattle.std.specs.Prelude.{ℕ, ◌<◌, List, [], ◌∷◌}
-use Rattle.agree.specs.Names.{Place, Mark}
-use Rattle.agree.specs.Names.place
+use Rattle.agree.specs.Names.{Mark, Option, Some, None}
 
 -- what lands, lands below the limit
-abbrev pub LandsBelow : ℕ → Place → Type 0
-LandsBelow limit place.Nowhere = Unit {0}
-LandsBelow limit (place.At n) = n < limit
+abbrev pub LandsBelow : ℕ → Option ℕ → Type 0
+LandsBelow limit None = Unit {0}
+LandsBelow limit (Some n) = n < limit
 
 -- every one of many marks
 abbrev pub Below : ℕ → List Mark → Type 0

@@ -7,15 +7,8 @@ pub use Rattle.code.specs.declared.Conversion.{Conversion}
 pub use Rattle.code.specs.declared.Conversion.TheVariants.{Nothing, Free, Cased}
 pub use Rattle.settings.specs.declared.Settings.{Settings}
 pub use Rattle.printer.specs.declared.Printer.{Printer}
-pub use Rattle.printer.specs.declared.Place.{Place}
-pub use Rattle.printer.specs.declared.Place.TheVariants as place
+pub use Rattle.std.specs.Prelude.{Option, Some, None}
 pub use Rattle.printer.specs.declared.Mark.{Mark}
-pub use Rattle.sender.specs.declared.Known.{Known}
-pub use Rattle.sender.specs.declared.Known.TheVariants.{Is}
-pub use Rattle.sender.specs.declared.Known.TheVariants as known
-pub use Rattle.sender.specs.declared.Column.{Column}
-pub use Rattle.sender.specs.declared.Column.TheVariants.{At}
-pub use Rattle.sender.specs.declared.Column.TheVariants as column
 pub use Rattle.sender.specs.declared.Record.{Record}
 pub use Rattle.sender.specs.declared.Wanted.{Wanted}
 pub use Rattle.sender.specs.declared.Sender.{Sender}

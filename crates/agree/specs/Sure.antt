@@ -1,17 +1,15 @@
 -- When a column and a case are on record, and the codes that put them there.
 use Rattle.std.specs.Prelude.{ℕ, Bool, true, false, ◌||◌, List, [], ◌∷◌}
 use Rattle.code.specs.Kinds.{kind_of}
-use Rattle.agree.specs.Names.{Kind, Still, Space, Return, Shift, Char, Known, Is, Column, At}
-use Rattle.agree.specs.Names.known
-use Rattle.agree.specs.Names.column
+use Rattle.agree.specs.Names.{Case, Kind, Still, Space, Return, Shift, Char, Option, Some, None}
 
-abbrev pub ColumnSure : Column → Type 0
-ColumnSure column.Unknown = ⊥
-ColumnSure (At n) = Unit {0}
+abbrev pub ColumnSure : Option ℕ → Type 0
+ColumnSure None = ⊥
+ColumnSure (Some n) = Unit {0}
 
-abbrev pub CaseSure : Known → Type 0
-CaseSure known.Unknown = ⊥
-CaseSure (Is case) = Unit {0}
+abbrev pub CaseSure : Option Case → Type 0
+CaseSure None = ⊥
+CaseSure (Some case) = Unit {0}
 
 -- a return puts the column on record
 abbrev pub is_return : Kind → Bool
