@@ -2,7 +2,7 @@
 -- Assumes nothing.
 use Prim.Native.Nat.{ℕ, suc, ◌+◌, ◌*◌, ◌-◌, ◌≤◌, ◌<◌}
 use mathlib.Core.Path.{◌≡◌, refl, ap, ◌∙◌}
-use mathlib.Core.Bool.{Bool, true, false, cond, false≢true, true≢false}
+use mathlib.Core.Bool.{Bool, true, false, cond}
 use lib.Dec.{leb}
 use mathlib.Core.List.{List, [], ◌∷◌, ◌++◌, append-nil, append_assoc}
 use native.Mathlib.Omega.{arith}
@@ -14,23 +14,11 @@ use lib.Seq.{drop-cons}
 use borrow.Author.Tests.{le-leb}
 use Rattle.laws.specs.Written.{Filled}
 use Rattle.laws.proofs.Filled.{filled_none, filled_on}
-use Rattle.sender.specs.Names.{Conversion, Nothing, Free, Cased, Settings, Sender, Asks, Text, Until, Never, Item}
-use Rattle.sender.specs.Item.{items, after_items, wanted_of, converted, wanted_by, wanted_text}
-use Rattle.sender.specs.Run.{is_none, wanted_as, asks_next, stops_at, Run, no_run, run_on, most, run_of, PutsItems, SendsRun}
+use Rattle.sender.specs.Names.{Settings, Sender, Asks, Text, Until, Never, Noted}
+use Rattle.sender.specs.Item.{items, after_items, converted, wanted_by, wanted_text}
+use Rattle.sender.specs.Run.{asks_next, stops_at, Run, no_run, run_on, most, run_of, PutsItems, SendsRun}
 use Rattle.sender.proofs.Append.{items_append, after_append}
 use Rattle.sender.proofs.Few.{byte_most}
-
--- where there is a code, it is the one item
-pub one_wanted : (x : Conversion) → is_none x ≡ false → wanted_of x ≡ wanted_as x ∷ []
-one_wanted Nothing e = absurd (true≢false e)
-one_wanted (Free c) e = refl
-one_wanted (Cased case c) e = refl
-
--- and else there is none
-pub none_wanted : (x : Conversion) → is_none x ≡ true → wanted_of x ≡ []
-none_wanted Nothing e = refl
-none_wanted (Free c) e = absurd (false≢true e)
-none_wanted (Cased case c) e = absurd (false≢true e)
 
 -- n bytes sent as p, before the rest
 abbrev before : ℕ → List ℕ → Run → Run
@@ -73,9 +61,9 @@ module _ (o : Settings) (start : Sender) (first : Asks) (until : Until) (bytes o
       at_stop z = stops (rw (drop-cons bytes n 0 lt, z))
 
       -- one byte more
-      pub sends_on : stops_at until (get_or bytes n 0) ≡ false → leb most (length now - k) ≡ true → (ys : List ℕ) (x : Item)
+      pub sends_on : stops_at until (get_or bytes n 0) ≡ false → leb most (length now - k) ≡ true → (ys : List ℕ) (x : Noted Sender)
           → PutsItems o s (wanted_by o asks (get_or bytes n 0)) (mid_of k (length now - k) now) ys x
-          → Sending o start first until bytes old x.sender (asks_next o asks (get_or bytes n 0)) (n + 1) (put_mid k (length now - k) now ys) (k + x.count)
+          → Sending o start first until bytes old x.held (asks_next o asks (get_or bytes n 0)) (n + 1) (put_mid k (length now - k) now ys) (k + x.count)
       sends_on z h ys x f =
           let b = get_or bytes n 0 in
           let ws = wanted_by o asks b in

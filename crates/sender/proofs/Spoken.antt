@@ -2,7 +2,7 @@
 -- Assumes nothing.
 use Prim.Native.Nat.{ℕ}
 use mathlib.Core.Path.{◌≡◌, refl}
-use mathlib.Core.Bool.{Bool, true, false, ◌&&◌, ◌||◌, false≢true, true≢false}
+use mathlib.Core.Bool.{Bool, true, false, ◌&&◌, ◌||◌}
 use lib.Dec.{eqb, leb}
 use borrow.Author.Tests.{eq-eqb, ne_eqb}
 use Rattle.laws.proofs.Both.{both}
@@ -12,17 +12,10 @@ use Rattle.settings.specs.Options.{stand_in}
 use Rattle.settings.proofs.Held.{stand_in_sound}
 use Rattle.sender.specs.Names.{Conversion, Nothing, Free, Cased, Settings}
 use Rattle.sender.specs.Item.{standing, or_else, spoken}
-use Rattle.sender.specs.Run.{is_none}
 
--- a byte without a code is the stand-in
-pub stood_in : (x other : Conversion) → is_none x ≡ true → or_else x other ≡ other
-stood_in Nothing other h = refl
-stood_in (Free c) other h = absurd (false≢true h)
-stood_in (Cased case c) other h = absurd (false≢true h)
-
--- and any other is itself
-pub spoken_itself : (x other : Conversion) → is_none x ≡ false → or_else x other ≡ x
-spoken_itself Nothing other h = absurd (true≢false h)
+-- a byte with a code is itself
+pub spoken_itself : (x other : Conversion) → (x ≡ Nothing → ⊥) → or_else x other ≡ x
+spoken_itself Nothing other h = absurd (h refl)
 spoken_itself (Free c) other h = refl
 spoken_itself (Cased case c) other h = refl
 

@@ -15,5 +15,4 @@ pub use Rattle.sender.specs.declared.Asks.TheVariants.{Text, Codes}
 pub use Rattle.sender.specs.declared.Until.{Until}
 pub use Rattle.sender.specs.declared.Until.TheVariants.{Never, Byte, Above}
 pub use Rattle.sender.specs.declared.Noted.{Noted}
-pub use Rattle.sender.specs.declared.Item.{Item}
 pub use Rattle.sender.specs.declared.Sent.{Sent}

@@ -2,32 +2,20 @@
 use Rattle.std.specs.Prelude.{ℕ, suc, ◌-◌, ◌≡◌, Bool, true, false, cond, List, [], ◌∷◌, ◌++◌, eqb, leb, ltb, length}
 use Rattle.laws.specs.Written.{Filled}
 use Rattle.code.specs.Kinds.{kind_of}
-use Rattle.sender.specs.Names.{Case, Letters, Conversion, Nothing, Free, Cased, Settings, Record, Wanted, Sender, Asks, Text, Codes, Until, Never, Byte, Above, Noted, Item, Sent}
+use Rattle.sender.specs.Names.{Case, Letters, Settings, Record, Wanted, Sender, Asks, Text, Codes, Until, Never, Byte, Above, Noted, Sent}
 use Rattle.sender.specs.Record.{notes}
 use Rattle.sender.specs.Reading.{read_case}
-use Rattle.sender.specs.Item.{items, after_items, wanted, wanted_by}
+use Rattle.sender.specs.Item.{items, after_items, wanted_by}
 
 -- codes at the front of a buffer, each noted in the record
-pub record Notes (o : Settings) (start : Record) (codes old now : List ℕ) (r : Noted) : Type 0 where
+pub record Notes (o : Settings) (start : Record) (codes old now : List ℕ) (r : Noted Record) : Type 0 where
   pub held : r.held ≡ notes o start codes
   pub places : Filled old now codes r.count
 
 -- items at the front of a buffer
-pub record PutsItems (o : Settings) (s : Sender) (ws : List Wanted) (old now : List ℕ) (r : Item) : Type 0 where
-  pub sender : r.sender ≡ after_items o s ws
+pub record PutsItems (o : Settings) (s : Sender) (ws : List Wanted) (old now : List ℕ) (r : Noted Sender) : Type 0 where
+  pub sender : r.held ≡ after_items o s ws
   pub places : Filled old now (items o s ws) r.count
-
--- whether there is no code
-abbrev pub is_none : Conversion → Bool
-is_none Nothing = true
-is_none (Free c) = false
-is_none (Cased case c) = false
-
--- the code with the case that it wants, where there is one
-abbrev pub wanted_as : Conversion → Wanted
-wanted_as Nothing = wanted Letters 0
-wanted_as (Free c) = wanted Letters c
-wanted_as (Cased case c) = wanted case c
 
 -- how the next byte asks
 abbrev pub asks_next : Settings → Asks → ℕ → Asks

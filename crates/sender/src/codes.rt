@@ -1,14 +1,14 @@
 // One code with its shifts, and an ending of several, at the front of a buffer that has room for them.
-ghost use Rattle.std.specs.Prelude.{◌≡◌, cond, [], ◌∷◌, ◌++◌, ◌≤◌, eqb, length};
+ghost use Rattle.std.specs.Prelude.{◌≡◌, cond, [], ◌∷◌, ◌++◌, ◌≤◌, length};
 ghost use Rattle.laws.specs.Written.{Filled};
 ghost use Rattle.word.specs.Word.{unpacked};
-ghost use Rattle.code.specs.Kinds.{shifts};
+ghost use Rattle.code.specs.Kinds.{kind_of, shifts};
 ghost use Rattle.sender.specs.Names.{Letters as Names-as-Letters};
-ghost use Rattle.sender.specs.Code.{shift_to, unshift, follow, send_kind};
+ghost use Rattle.sender.specs.Code.{shift_to, unshift, follow, send_as};
 ghost use Rattle.sender.specs.Ending.{on_record, ending_of, until_zero};
 ghost use Rattle.sender.specs.Run.{Notes};
 
-use crate::{Noted, Record};
+use crate::{Noted, Record, Wanted};
 use code::{Case, Kind};
 use settings::Settings;
 
@@ -24,30 +24,28 @@ fn is_followed(o: Settings, n: Option<Case>, k: Kind) -> bool
     ensures { follow o n k ≡ cond result (Names-as-Letters ∷ []) [] }
 {
     match k {
-        Kind::Still => false,
         Kind::Space => is_unshifted(o.onspace(), n),
         Kind::Return => is_unshifted(o.onreturn(), n),
-        Kind::Shift(_) => false,
-        Kind::Char(_) => false,
+        Kind::Still | Kind::Shift(_) | Kind::Char(_) => false,
     }
 }
 
 // A code that depends on case: the shift that it needs, and the code. How many they are.
-pub fn put_led(n: Option<Case>, want: Case, c: u8, out: &mut [u8]) -> usize
-    requires { length (shifts (shift_to n want) ++ c ∷ []) ≤ length out.old }
-    ensures { Filled out.old out.new (shifts (shift_to n want) ++ c ∷ []) result }
+fn put_led(n: Option<Case>, w: Wanted, out: &mut [u8]) -> usize
+    requires { length (shifts (shift_to n w.case) ++ w.code ∷ []) ≤ length out.old }
+    ensures { Filled out.old out.new (shifts (shift_to n w.case) ++ w.code ∷ []) result }
 {
-    if n == Some(want) {
-        out[0] = c;
+    if n == Some(w.case) {
+        out[0] = w.code;
         return 1;
     }
-    out[0] = code::shift_to(want);
-    out[1] = c;
+    out[0] = code::shift_to(w.case);
+    out[1] = w.code;
     2
 }
 
 // Any other code, and the LTRS that follows. How many they are.
-pub fn put_followed(o: Settings, n: Option<Case>, c: u8, k: Kind, out: &mut [u8]) -> usize
+fn put_followed(o: Settings, n: Option<Case>, c: u8, k: Kind, out: &mut [u8]) -> usize
     requires { length (c ∷ shifts (follow o n k)) ≤ length out.old }
     ensures { Filled out.old out.new (c ∷ shifts (follow o n k)) result }
 {
@@ -59,17 +57,6 @@ pub fn put_followed(o: Settings, n: Option<Case>, c: u8, k: Kind, out: &mut [u8]
     1
 }
 
-// One code in its wanted case: the shift that it needs, the code, the LTRS that follows. How many they are.
-fn put_code(o: Settings, n: Option<Case>, want: Case, c: u8, k: Kind, out: &mut [u8]) -> usize
-    requires { length (send_kind o n want k c) ≤ length out.old }
-    ensures { Filled out.old out.new (send_kind o n want k c) result }
-{
-    if let Kind::Char(_) = k {
-        return put_led(n, want, c, out);
-    }
-    put_followed(o, n, c, k, out)
-}
-
 // The case that a code of an ending is sent in: the one on record, letters while it is unknown.
 fn on_record(n: Option<Case>) -> Case
     ensures { result ≡ on_record n }
@@ -77,35 +64,44 @@ fn on_record(n: Option<Case>) -> Case
     n.unwrap_or(Case::Letters)
 }
 
-// Whether a string of codes ends here, at its first 0.
-fn is_end(c: u8) -> bool
-    ensures { result ≡ eqb c 0 }
-{
-    c == 0
-}
-
-// The codes of a string's word as an ending, up to the first 0.
-pub fn put_ending(o: Settings, start: Record, string: u64, out: &mut [u8]) -> Noted
-    requires { length (ending_of o start (until_zero (unpacked string))) ≤ length out.old }
-    ensures { Notes o start (ending_of o start (until_zero (unpacked string))) out.old out.new result }
-{
-    let mut held = start;
-    let mut count = 0;
-    let mut rest = string;
-    let mut left: u8 = 8;
-    while 0 < left {
-        let c = (rest % 32) as u8;
-        if is_end(c) {
-            return Noted { held, count };
+impl Record {
+    // One code, of this kind, in its wanted case: the shift that it needs, the code, the LTRS that follows.
+    pub(crate) fn put_code(self, o: Settings, w: Wanted, k: Kind, out: &mut [u8]) -> Noted<Record>
+        requires { (k ≡ kind_of w.code) × (length (send_as o self.case w.case w.code) ≤ length out.old) }
+        ensures { Notes o self (send_as o self.case w.case w.code) out.old out.new result }
+    {
+        let count = if let Kind::Char(_) = k {
+            put_led(self.case, w, out)
+        } else {
+            put_followed(o, self.case, w.code, k, out)
+        };
+        Noted {
+            held: self.after(o, w.case, k),
+            count,
         }
-        let case = held.case;
-        let want = on_record(case);
-        let k = code::kind_of(c);
-        let n = put_code(o, case, want, c, k, &mut out[count..]);
-        held = held.after(o, want, k);
-        count += n;
-        rest = rest / 32;
-        left -= 1;
     }
-    Noted { held, count }
+
+    // The codes of a string's word as an ending, up to the first 0. It is hardly ever entered: compiled into the loop over bytes it would take
+    // registers from it.
+    #[inline(never)]
+    pub(crate) fn put_ending(self, o: Settings, string: u64, out: &mut [u8]) -> Noted<Record>
+        requires { length (ending_of o self (until_zero (unpacked string))) ≤ length out.old }
+        ensures { Notes o self (ending_of o self (until_zero (unpacked string))) out.old out.new result }
+    {
+        let mut held = self;
+        let mut count = 0;
+        for c in word::unpack(string) {
+            if c == 0 {
+                return Noted { held, count };
+            }
+            let w = Wanted {
+                case: on_record(held.case),
+                code: c,
+            };
+            let x = held.put_code(o, w, code::kind_of(c), &mut out[count..]);
+            held = x.held;
+            count += x.count;
+        }
+        Noted { held, count }
+    }
 }

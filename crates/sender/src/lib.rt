@@ -46,17 +46,10 @@ pub enum Until {
     Above(u8),
 }
 
-// Codes that went out: the record after them, and how many they are.
+// Codes that went out: the record, or the sender, that is held after them, and how many they are.
 #[derive(Clone, Copy)]
-pub struct Noted {
-    pub held: Record,
-    pub count: usize,
-}
-
-// An item that went out: the sender after it, and how many codes it was.
-#[derive(Clone, Copy)]
-pub struct Item {
-    pub sender: Sender,
+pub struct Noted<T> {
+    pub held: T,
     pub count: usize,
 }
 

@@ -16,10 +16,9 @@ pub fn case_after(onspace: bool, onreturn: bool, case: Case, k: Kind) -> Case
     ensures { result ≡ case_after onspace onreturn case k }
 {
     match k {
-        Kind::Still => case,
         Kind::Space => unshifted_by(onspace, case),
         Kind::Return => unshifted_by(onreturn, case),
         Kind::Shift(to) => to,
-        Kind::Char(_) => case,
+        Kind::Still | Kind::Char(_) => case,
     }
 }

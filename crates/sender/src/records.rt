@@ -35,7 +35,7 @@ fn after_char(bell: bool, want: Case, col: Option<u8>) -> Option<u8>
 
 impl Record {
     // The record after a code of this kind in its wanted case.
-    pub fn after(self, o: Settings, want: Case, k: Kind) -> Record
+    pub(crate) fn after(self, o: Settings, want: Case, k: Kind) -> Record
         ensures { result ≡ after o self want k }
     {
         match k {
