@@ -1,12 +1,11 @@
 -- What is sent one after the other is sent as one list: in the record, as items, and in a buffer.
 -- Assumes nothing.
-use Prim.Native.Nat.{ℕ, ◌+◌, ◌-◌, ◌≤◌}
+use Prim.Native.Nat.{ℕ, ◌+◌, ◌-◌}
 use mathlib.Core.Path.{◌≡◌, refl, sym, ap, ◌∙◌}
 use mathlib.Core.List.{List, [], ◌∷◌, ◌++◌, append_assoc}
-use native.Mathlib.Omega.{arith}
 use borrow.Rule.Slice.PartMut.{put_mid, mid_of}
-use lib.ListN.{length, length-append}
-use Rattle.laws.proofs.Filled.{filled_none, filled_on}
+use lib.ListN.{length}
+use Rattle.laws.proofs.Filled.{filled_on}
 use Rattle.sender.specs.Names.{Settings, Record, Wanted, Sender, Noted}
 use Rattle.sender.specs.Record.{note, notes}
 use Rattle.sender.specs.Item.{items, after_item, after_items}
@@ -24,16 +23,8 @@ pub after_append : (o : Settings) (s : Sender) (xs ys : List Wanted) → after_i
 after_append o s [] ys = refl
 after_append o s (x ∷ xs) ys = after_append o (after_item o s x) xs ys
 
--- no codes in a buffer
-pub noted_none : (o : Settings) (r : Record) (old : List ℕ) → Notes o r [] old old (record { held = r; count = 0 })
-noted_none o r old = record { held = refl; places = filled_none old }
-
 -- some codes, and others after them
 module _ (o : Settings) (r : Record) (a old mid : List ℕ) (x : Noted Record) (e : Notes o r a old mid x) (b : List ℕ) where
-  -- these have room where both have
-  pub noted_room : length (a ++ b) ≤ length old → length b ≤ length mid - x.count
-  noted_room fits = omega (arith, fits, length-append a b, e.places.count, e.places.same_length)
-
   pub noted_on : (ys : List ℕ) (y : Noted Record) → Notes o x.held b (mid_of x.count (length mid - x.count) mid) ys y
       → Notes o r (a ++ b) old (put_mid x.count (length mid - x.count) mid ys) (record { held = y.held; count = x.count + y.count })
   noted_on ys y f = record {

@@ -4,19 +4,18 @@ use Prim.Native.Nat.{ℕ, suc, ◌+◌, ◌*◌, ◌-◌, ◌≤◌, ◌<◌}
 use mathlib.Core.Path.{◌≡◌, refl, ap, ◌∙◌}
 use mathlib.Core.Bool.{Bool, true, false, cond}
 use lib.Dec.{leb}
-use mathlib.Core.List.{List, [], ◌∷◌, ◌++◌, append-nil, append_assoc}
+use mathlib.Core.List.{List, [], ◌∷◌, ◌++◌, append_assoc}
 use native.Mathlib.Omega.{arith}
 use native.Mathlib.Numerals.{add-one}
-use native.Mathlib.Nat.{zero-add, add-zero, sub-zero}
 use borrow.Rule.Slice.PartMut.{put_mid, mid_of}
-use lib.ListN.{length, get_or, drop, drop_of_length-le}
+use lib.ListN.{length, get_or, drop}
 use lib.Seq.{drop-cons}
 use borrow.Author.Tests.{le-leb}
 use Rattle.laws.specs.Written.{Filled}
-use Rattle.laws.proofs.Filled.{filled_none, filled_on}
+use Rattle.laws.proofs.Filled.{filled_on}
 use Rattle.sender.specs.Names.{Settings, Sender, Asks, Text, Until, Never, Noted}
 use Rattle.sender.specs.Item.{items, after_items, converted, wanted_by, wanted_text}
-use Rattle.sender.specs.Run.{asks_next, stops_at, Run, no_run, run_on, most, run_of, PutsItems, SendsRun}
+use Rattle.sender.specs.Run.{asks_next, stops_at, Run, no_run, run_on, most, run_of, PutsItems}
 use Rattle.sender.proofs.Append.{items_append, after_append}
 use Rattle.sender.proofs.Few.{byte_most}
 
@@ -37,46 +36,29 @@ pub record Sending (o : Settings) (start : Sender) (first : Asks) (until : Until
   pub places : Filled old now p k
   pub rest : run_of o start first until bytes (length old) ≡ before n p (run_of o s asks until (drop n bytes) (length old - k))
 
-module _ (o : Settings) (start : Sender) (first : Asks) (until : Until) (bytes old : List ℕ) where
-  pub sending : Sending o start first until bytes old start first 0 old 0
-  sending = record { p = []; within = omega arith; places = filled_none old; rest = rw (sub-zero (length old), zero-add) }
+-- one byte more
+module _ (o : Settings) (start : Sender) (first : Asks) (until : Until) (bytes old : List ℕ) (s : Sender) (asks : Asks) (n : ℕ) (now : List ℕ) (k : ℕ)
+    (e : Sending o start first until bytes old s asks n now k) (lt : n < length bytes) where
+  -- the next byte's codes
+  abbrev cs : List ℕ
+  cs = items o s (wanted_by o asks (get_or bytes n 0))
 
-  module _ (s : Sender) (asks : Asks) (n : ℕ) (now : List ℕ) (k : ℕ) (e : Sending o start first until bytes old s asks n now k) where
-    stops : run_of o s asks until (drop n bytes) (length old - k) ≡ no_run s asks
-        → SendsRun (run_of o start first until bytes (length old)) old now (record { sender = s; asks = asks; taken = n; count = k })
-    stops h = rw (e.rest, h) (record { gives = rw (add-zero, append-nil, e.places.count); places = rw append-nil e.places })
-
-    pub all_sent : length bytes ≤ n → SendsRun (run_of o start first until bytes (length old)) old now (record { sender = s; asks = asks; taken = n; count = k })
-    all_sent h = stops (rw (drop_of_length-le bytes h))
-
-    module _ (lt : n < length bytes) where
-      -- the next byte's codes
-      abbrev cs : List ℕ
-      cs = items o s (wanted_by o asks (get_or bytes n 0))
-
-      pub no_room : stops_at until (get_or bytes n 0) ≡ false → leb most (length now - k) ≡ false → SendsRun (run_of o start first until bytes (length old)) old now (record { sender = s; asks = asks; taken = n; count = k })
-      no_room z h = stops (rw (drop-cons bytes n 0 lt, z, ← e.places.same_length, h))
-
-      pub at_stop : stops_at until (get_or bytes n 0) ≡ true → SendsRun (run_of o start first until bytes (length old)) old now (record { sender = s; asks = asks; taken = n; count = k })
-      at_stop z = stops (rw (drop-cons bytes n 0 lt, z))
-
-      -- one byte more
-      pub sends_on : stops_at until (get_or bytes n 0) ≡ false → leb most (length now - k) ≡ true → (ys : List ℕ) (x : Noted Sender)
-          → PutsItems o s (wanted_by o asks (get_or bytes n 0)) (mid_of k (length now - k) now) ys x
-          → Sending o start first until bytes old x.held (asks_next o asks (get_or bytes n 0)) (n + 1) (put_mid k (length now - k) now ys) (k + x.count)
-      sends_on z h ys x f =
-          let b = get_or bytes n 0 in
-          let ws = wanted_by o asks b in
-          let a = length old - k in
-          let u : leb most a ≡ true = rw e.places.same_length at h in
-          let v : a - length cs ≡ length old - (k + x.count) = omega (arith, f.places.count) in
-          let turn : run_of o s asks until (drop n bytes) a ≡ run_on cs (run_of o (after_items o s ws) (asks_next o asks b) until (drop (n + 1) bytes) (a - length cs)) = rw (drop-cons bytes n 0 lt, z, u, add-one) in
-          record {
-            p = e.p ++ cs;
-            within = omega arith;
-            places = filled_on old now e.p cs ys k x.count e.places f.places;
-            rest = e.rest ∙ ap (before n e.p) turn ∙ moved n e.p cs _ ∙ rw (f.sender, v);
-          }
+  pub sends_on : stops_at until (get_or bytes n 0) ≡ false → leb most (length now - k) ≡ true → (ys : List ℕ) (x : Noted Sender)
+      → PutsItems o s (wanted_by o asks (get_or bytes n 0)) (mid_of k (length now - k) now) ys x
+      → Sending o start first until bytes old x.held (asks_next o asks (get_or bytes n 0)) (n + 1) (put_mid k (length now - k) now ys) (k + x.count)
+  sends_on z h ys x f =
+      let b = get_or bytes n 0 in
+      let ws = wanted_by o asks b in
+      let a = length old - k in
+      let u : leb most a ≡ true = rw e.places.same_length at h in
+      let v : a - length cs ≡ length old - (k + x.count) = omega (arith, f.places.count) in
+      let turn : run_of o s asks until (drop n bytes) a ≡ run_on cs (run_of o (after_items o s ws) (asks_next o asks b) until (drop (n + 1) bytes) (a - length cs)) = rw (drop-cons bytes n 0 lt, z, u, add-one) in
+      record {
+        p = e.p ++ cs;
+        within = omega arith;
+        places = filled_on old now e.p cs ys k x.count e.places f.places;
+        rest = e.rest ∙ ap (before n e.p) turn ∙ moved n e.p cs _ ∙ rw (f.sender, v);
+      }
 
 -- no more bytes than there are
 pub run_within : (o : Settings) (s : Sender) (asks : Asks) (until : Until) (bs : List ℕ) (room : ℕ) → (run_of o s asks until bs room).taken ≤ length bs

@@ -1,5 +1,5 @@
 -- Bytes that go out as codes, written straight into a buffer.
-use Rattle.std.specs.Prelude.{ℕ, suc, ◌-◌, ◌≡◌, Bool, true, false, cond, List, [], ◌∷◌, ◌++◌, eqb, leb, ltb, length}
+use Rattle.std.specs.Prelude.{ℕ, suc, ◌-◌, ◌≡◌, Bool, false, cond, List, [], ◌∷◌, ◌++◌, eqb, leb, ltb, length}
 use Rattle.laws.specs.Written.{Filled}
 use Rattle.code.specs.Kinds.{kind_of}
 use Rattle.sender.specs.Names.{Case, Letters, Settings, Record, Wanted, Sender, Asks, Text, Codes, Until, Never, Byte, Above, Noted, Sent}

@@ -37,7 +37,7 @@ fn speak(o: Settings, table: &[u8], b: u8) -> Conversion
 
 impl Asks {
     // What a byte stands for: text by the table lent, a TU code in the incoming reading case.
-    fn convert(self, o: Settings, table: &[u8], b: u8) -> Conversion
+    pub fn convert(self, o: Settings, table: &[u8], b: u8) -> Conversion
         requires { Tabled table.now }
         ensures { result ≡ converted o self b }
     {
@@ -48,7 +48,7 @@ impl Asks {
     }
 
     // How the byte after this one asks.
-    fn next(self, o: Settings, b: u8) -> Asks
+    pub fn next(self, o: Settings, b: u8) -> Asks
         ensures { result ≡ asks_next o self b }
     {
         match self {

@@ -7,16 +7,6 @@ use Rattle.sender.proofs.Shifted.{cased, uncased}
 use Rattle.sender.proofs.Record.put_code.Goals.{in-Char, in_default}
 use Rattle.sender.proofs.Record.put_code.Goals as goal
 
-pub put_led-count-requires : goal.put_led-count-requires
-put_led-count-requires c =
-    let a = c.args in
-    rw (cased a.o a.self.case a.w.case a.w.code a.k _ c.requires.0 c.in-Char.is) at c.requires.1
-
-pub put_followed-count-requires : goal.put_followed-count-requires
-put_followed-count-requires c =
-    let a = c.args in
-    rw (uncased a.o a.self.case a.w.case a.w.code a.k c.requires.0 c.in_default.not-Char) at c.requires.1
-
 pub returns : goal.returns
 returns c =
     let a = c.args in

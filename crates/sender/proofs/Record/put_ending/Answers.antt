@@ -4,11 +4,10 @@ use mathlib.Core.Path.{◌≡◌, ap}
 use mathlib.Core.List.{List, ◌∷◌}
 use native.Mathlib.Omega.{arith}
 use native.Mathlib.Numerals.{add-one}
-use lib.ListN.{length, get_or, drop, drop_of_length-le}
+use lib.ListN.{length, get_or, drop}
 use lib.Seq.{drop-cons}
-use borrow.Author.Tests.{eq-eqb, ne_eqb}
-use Rattle.laws.proofs.Filled.{free_length}
-use Rattle.sender.proofs.Endings.{ending_start, at_zero, at_end, ending_room, ending_turn}
+use borrow.Author.Tests.{ne_eqb}
+use Rattle.sender.proofs.Endings.{ending_turn}
 use Rattle.sender.proofs.Record.put_ending.Goals as goal
 
 -- the next code and those after it
@@ -17,27 +16,6 @@ first s i n lt =
     let h : i < length s = omega (arith, n, lt) in
     rw add-one (drop-cons s i 0 h)
 
-pub loop-c-init : goal.loop-c-init
-loop-c-init c =
-    let a = c.args in
-    (rw c.unpack-c-items.ensures c.requires, ending_start a.o a.self c.unpack-c-items.result a.out.now)
-
-pub returns-then-c-eq0 : goal.returns-then-c-eq0
-returns-then-c-eq0 c =
-    let a = c.args in
-    let l = c.loop-c in
-    let s = c.unpack-c-items.result in
-    let f = first s l.c-index (ap length c.unpack-c-items.ensures) c.loop-c-test.true in
-    rw c.unpack-c-items.ensures at (at_zero a.o a.self s a.out.now (drop l.c-index s) l.out _ l.invariant.1 _ _ f (eq-eqb _ _ c.if-c-eq0.true))
-
-pub put_code-x-requires : goal.put_code-x-requires
-put_code-x-requires c =
-    let a = c.args in
-    let l = c.loop-c in
-    let s = c.unpack-c-items.result in
-    let f = first s l.c-index (ap length c.unpack-c-items.ensures) c.loop-c-test.true in
-    (c.kind_of.ensures, rw (free_length l.out l.count, c.on_record.ensures) (ending_room a.o a.self s a.out.now (drop l.c-index s) l.out _ l.invariant.1 _ _ f (ne_eqb _ _ c.if-c-eq0.false) l.invariant.0))
-
 pub loop-c-preserved : goal.loop-c-preserved
 loop-c-preserved c =
     let a = c.args in
@@ -45,11 +23,3 @@ loop-c-preserved c =
     let s = c.unpack-c-items.result in
     let f = first s l.c-index (ap length c.unpack-c-items.ensures) c.loop-c-test.true in
     (l.invariant.0, ending_turn a.o a.self s a.out.now (drop l.c-index s) l.out _ l.invariant.1 _ _ f (ne_eqb _ _ c.if-c-eq0.false) _ c.put_code-x.result (rw c.on_record.ensures at c.put_code-x.ensures))
-
-pub returns : goal.returns
-returns c =
-    let a = c.args in
-    let l = c.loop-c in
-    let s = c.unpack-c-items.result in
-    let n : length s ≡ 8 = ap length c.unpack-c-items.ensures in
-    rw c.unpack-c-items.ensures at (at_end a.o a.self s a.out.now (drop l.c-index s) l.out _ l.invariant.1 (drop_of_length-le s (omega (arith, n, c.loop-c-test.false))))
