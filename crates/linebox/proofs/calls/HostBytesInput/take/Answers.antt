@@ -1,4 +1,4 @@
--- `linebox::calls::take_host` meets its contract. The invariant: the bytes taken and what they wrote stand before what the rest gives; the
+-- `linebox::calls::HostBytes` meets its contract. The invariant: the bytes taken and what they wrote stand before what the rest gives; the
 -- state stays sound.
 use Rattle.std.proofs.Common.{◌≡◌, ◌+◌, ◌-◌, ◌<◌, length, get_or, refl, arith}
 use borrow.Author.Tests.{not-true, not-false}
@@ -8,8 +8,8 @@ use Rattle.step.specs.Step.{hosted, step}
 use Rattle.step.proofs.Stays.{sound_parts}
 use Rattle.linebox.specs.Names.{Host, All}
 use Rattle.linebox.proofs.Turns.{Reached, reached, ran, kept_on, read_next, stops, all_taken, stays, turn}
-use Rattle.linebox.proofs.calls.take_host.Goals as goal
-use Rattle.linebox.proofs.calls.take_host.Goals.{After-with_reader-state}
+use Rattle.linebox.proofs.calls.HostBytesInput.take.Goals as goal
+use Rattle.linebox.proofs.calls.HostBytesInput.take.Goals.{After-with_reader-state}
 
 -- after a run of text, and a run of bytes that the command reader keeps
 kept_of : (d : After-with_reader-state)

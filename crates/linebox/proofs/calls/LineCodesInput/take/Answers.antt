@@ -1,9 +1,9 @@
--- `linebox::calls::take_line` meets its contract. The invariant: the codes taken and what they wrote stand before what the rest gives; the
+-- `linebox::calls::LineCodes` meets its contract. The invariant: the codes taken and what they wrote stand before what the rest gives; the
 -- state stays sound.
 use borrow.Author.Tests.{lt-ltb, le-ltb, not-true, not-false}
 use Rattle.linebox.specs.Names.{Line, NoCode}
 use Rattle.linebox.proofs.Turns.{reached, stops, no_code, stays, turn}
-use Rattle.linebox.proofs.calls.take_line.Goals as goal
+use Rattle.linebox.proofs.calls.LineCodesInput.take.Goals as goal
 
 pub loop-taken-init : goal.loop-taken-init
 loop-taken-init c =

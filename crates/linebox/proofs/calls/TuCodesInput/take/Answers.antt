@@ -1,12 +1,12 @@
--- `linebox::calls::take_tu` meets its contract. The invariant: the codes taken and what they wrote stand before what the rest gives; the
+-- `linebox::calls::TuCodes` meets its contract. The invariant: the codes taken and what they wrote stand before what the rest gives; the
 -- state stays sound.
 use Rattle.std.proofs.Common.{◌+◌, ◌-◌, length, arith}
 use borrow.Author.Tests.{lt-ltb, le-ltb, not-true, not-false}
 use borrow.Rule.Slice.PartMut.{put_mid}
 use Rattle.linebox.specs.Names.{Tu, All, NoCode}
 use Rattle.linebox.proofs.Turns.{Reached, reached, ran, stops, all_taken, no_code, stays, turn}
-use Rattle.linebox.proofs.calls.take_tu.Goals as goal
-use Rattle.linebox.proofs.calls.take_tu.Goals.{After-take_codes-run}
+use Rattle.linebox.proofs.calls.TuCodesInput.take.Goals as goal
+use Rattle.linebox.proofs.calls.TuCodesInput.take.Goals.{After-take_codes-run}
 
 -- after a run of codes
 run_of : (d : After-take_codes-run)

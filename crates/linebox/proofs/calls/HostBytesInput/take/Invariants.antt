@@ -1,9 +1,9 @@
--- `linebox::calls::take_host` meets its contract. The invariant: the bytes taken and what they wrote stand before what the rest gives; the
+-- `linebox::calls::HostBytes` meets its contract. The invariant: the bytes taken and what they wrote stand before what the rest gives; the
 -- state stays sound.
 use Rattle.std.proofs.Common.{◌-◌, length}
 use Rattle.linebox.specs.Names.{Host}
 use Rattle.linebox.proofs.Turns.{Reached}
-use Rattle.linebox.proofs.calls.take_host.Given as goal
+use Rattle.linebox.proofs.calls.HostBytesInput.take.Given as goal
 
 abbrev pub invariant-loop-taken : goal.invariant-loop-taken
 invariant-loop-taken l = Reached Host l.initial.state l.input l.initial.line l.initial.host l.state l.taken l.line l.host l.one l.two
