@@ -100,7 +100,7 @@ fn run_codes(s: State, codes: &[u8], line: &mut [u8]) -> Ran
     let after = x.sender;
     let asks = x.asks;
     Ran {
-        state: with_sender(with_incoming(s, sender::runs::case_asked(asks)), after),
+        state: with_sender(with_incoming(s, asks.case()), after),
         taken: x.taken,
         count: x.count,
     }

@@ -2,13 +2,14 @@
 -- Assumes nothing.
 use Prim.Native.Nat.{ℕ, suc, ◌+◌, ◌*◌, ◌<◌, ◌≤◌}
 use mathlib.Core.Path.{◌≡◌, refl, sym, ap, subst, ◌∙◌}
-use mathlib.Core.Bool.{Bool, true, false, cond, not}
+use mathlib.Core.Bool.{Bool, true, false, cond, not, beq, true≢false, false≢true}
 use mathlib.Core.List.{List, [], ◌∷◌, ◌++◌, append-nil}
 use native.Mathlib.Omega.{arith}
 use native.Mathlib.Nat.{le_of_eq, zero-add}
 use borrow.Author.Tests.{ltb-true, lt-ltb, eq-eqb}
 use lib.Dec.{eqb, ltb}
-use lib.ListN.{length, get_or, length-append}
+use lib.ListN.{length, length-append}
+use Rattle.std.specs.Int.{from_bool}
 use Rattle.laws.proofs.Both.{both}
 use Rattle.laws.proofs.Either.{either_way}
 use Rattle.laws.specs.Written.{fronted, Filled}
@@ -16,15 +17,15 @@ use Rattle.laws.proofs.Tail.{length_fronted}
 use Rattle.message.specs.Message.{digits}
 use Rattle.message.specs.Made.{Put}
 use Rattle.motor.specs.Motor.{hearing, hearing_all, is_on}
-use Rattle.sender.specs.Item.{or_else, wanted_of, wanted_text, spoken}
+use Rattle.sender.specs.Item.{wanted_of, wanted_by, wanted_text}
 use Rattle.command.specs.Read.{text_of}
 use Rattle.command.specs.declared.Verb.{Verb}
 use Rattle.command.specs.declared.Out.TheVariants as out
-use Rattle.step.specs.Names.{Calling, Settings, Route, Dropped, ToPrinter, ToHost, ToTu, Out, One, Two, Finished, Wanted, Motor, State, Host}
+use Rattle.step.specs.Names.{Calling, Settings, Route, Dropped, ToPrinter, ToHost, ToTu, Out, One, Two, Finished, Wanted, Motor, State, Host, Text}
 use Rattle.step.specs.Route.{route}
 use Rattle.code.specs.declared.Conversion.{Conversion}
 use Rattle.code.specs.declared.Conversion.TheVariants.{Nothing, Free, Cased}
-use Rattle.step.specs.Hear.{listens, codes_asked, powered, change, changes, motor_after, told_of, heard_both, Hears}
+use Rattle.step.specs.Hear.{listens, codes_asked, powered, change, changes, motor_after, told_of, asked_by}
 use Rattle.step.specs.Step.{sends, quiet, text, hosted}
 
 -- Nothing asked for is nothing heard.
@@ -86,12 +87,27 @@ item_changes k port m Nothing cs = rw (same_told port (powered m))
 item_changes k port m (Free c) cs = refl
 item_changes k port m (Cased case c) cs = refl
 
-few_powered : (m : Motor) → powered m < 10
-few_powered m = go (is_on m.run)
-  where
-    go : (b : Bool) → cond b 1 0 < 10
-    go true = omega arith
-    go false = omega arith
+-- on or off is one digit
+pub few_digit : (b : Bool) → from_bool b < 10
+few_digit true = omega arith
+few_digit false = omega arith
+
+-- and the digits are the same exactly if it is
+pub digits_same : (a b : Bool) → beq a b ≡ true → from_bool a ≡ from_bool b
+digits_same true true h = refl
+digits_same true false h = absurd (false≢true h)
+digits_same false true h = absurd (false≢true h)
+digits_same false false h = refl
+
+pub digits_apart : (a b : Bool) → beq a b ≡ false → eqb (from_bool a) (from_bool b) ≡ false
+digits_apart true true h = absurd (true≢false h)
+digits_apart true false h = refl
+digits_apart false true h = refl
+digits_apart false false h = absurd (true≢false h)
+
+pub few_port : (s : State) → listens s.calling s.connection ≡ true → s.connection.port < 10
+unfolding listens
+few_port s e = omega (arith, ltb-true s.connection.port 4 (both (not (eqb s.calling.power 0)) (ltb s.connection.port 4) e).1)
 
 module _ (s : State) (x y : Conversion) (e : listens s.calling s.connection ≡ true) where
   abbrev k : Calling
@@ -103,11 +119,11 @@ module _ (s : State) (x y : Conversion) (e : listens s.calling s.connection ≡ 
   abbrev last : Motor
   last = hearing_all k then (codes_asked (wanted_of y))
 
-  both_motor : last ≡ motor_after s (wanted_of x ++ wanted_of y)
+  pub both_motor : last ≡ motor_after s (wanted_of x ++ wanted_of y)
   unfolding motor_after
   both_motor = rw (e, codes_append (wanted_of x) (wanted_of y)) (sym (hearing_append k s.motor (codes_asked (wanted_of x)) (codes_asked (wanted_of y))))
 
-  both_told : change s.connection.port (powered s.motor) (powered then) ++ change s.connection.port (powered then) (powered last) ≡ told_of s (wanted_of x ++ wanted_of y)
+  pub both_told : change s.connection.port (powered s.motor) (powered then) ++ change s.connection.port (powered then) (powered last) ≡ told_of s (wanted_of x ++ wanted_of y)
   unfolding told_of
   both_told =
       let port = s.connection.port in
@@ -115,23 +131,11 @@ module _ (s : State) (x y : Conversion) (e : listens s.calling s.connection ≡ 
       let f : changes k port then ys ≡ change port (powered then) (powered last) = ap (λ (cs : List ℕ). changes k port then cs) (sym (append-nil ys)) ∙ item_changes k port then y [] ∙ append-nil _ in
       rw (e, codes_append (wanted_of x) (wanted_of y)) (sym (item_changes k port s.motor x ys ∙ ap (λ (cs : List ℕ). change port (powered s.motor) (powered then) ++ cs) f))
 
-  few_port : s.connection.port < 10
-  unfolding listens
-  few_port = omega (arith, ltb-true s.connection.port 4 (both (not (eqb s.calling.power 0)) (ltb s.connection.port 4) e).1)
+-- Text asks as text.
 
-  pub heard_both_law : Hears s (wanted_of x ++ wanted_of y) (heard_both s.calling s.connection.port s.motor x y)
-  heard_both_law = record { motor = both_motor; tells = both_told; port = few_port; between = few_powered then; after = few_powered last }
-
--- Text of two bytes at most.
-
-abbrev spoken_at : Settings → List ℕ → ℕ → Conversion
-spoken_at o bs i = cond (ltb i (length bs)) (spoken o (get_or bs i 0)) Nothing
-
-pub text_two : (o : Settings) (bs : List ℕ) → length bs ≤ 2 → wanted_of (spoken_at o bs 0) ++ wanted_of (spoken_at o bs 1) ≡ wanted_text o bs
-text_two o [] h = refl
-text_two o (a ∷ []) h = refl
-text_two o (a ∷ b ∷ []) h = rw (append-nil (wanted_of (spoken o b)))
-text_two o (a ∷ b ∷ c ∷ bs) h = absurd (omega (arith, h))
+pub text_asked : (o : Settings) (bs : List ℕ) → asked_by o Text bs ≡ wanted_text o bs
+text_asked o [] = refl
+text_asked o (b ∷ bs) = ap (λ (ws : List Wanted). wanted_by o Text b ++ ws) (text_asked o bs)
 
 -- The message of a change.
 
@@ -171,12 +175,6 @@ laid_change port before after old now n p q e h m =
     let u = change_laid port before after p q e in
     put_filled (change port before after) old now n h (subst (λ (xs : List ℕ). Put old 0 xs now n) u m)
 
--- a conversion that is some code is itself, whatever stands in
-pub itself : (x other : Conversion) → (x ≡ Nothing → ⊥) → or_else x other ≡ x
-itself Nothing other h = absurd (h refl)
-itself (Free c) other h = refl
-itself (Cased case c) other h = refl
-
 -- How much the host is told: a message for each item at most.
 
 changes_few : (k : Calling) (port : ℕ) (m : Motor) (cs : List ℕ) → port < 10 → length (changes k port m cs) ≤ 17 * length cs
@@ -184,7 +182,7 @@ changes_few k port m [] p = omega arith
 changes_few k port m (c ∷ cs) p =
     let one = change port (powered m) (powered (hearing k m c)) in
     let rest = changes k port (hearing k m c) cs in
-    omega (arith, length-append one rest, change_short port (powered m) (powered (hearing k m c)) p (few_powered (hearing k m c)), changes_few k port (hearing k m c) cs p)
+    omega (arith, length-append one rest, change_short port (powered m) (powered (hearing k m c)) p (few_digit (is_on (hearing k m c).run)), changes_few k port (hearing k m c) cs p)
 
 codes_length : (ws : List Wanted) → length (codes_asked ws) ≡ length ws
 codes_length [] = refl

@@ -2,6 +2,5 @@ pub mod Bytes
 pub mod Ways
 pub mod Hearing
 pub mod Sent
-pub mod Answered
 pub mod Stays
 pub mod Rest

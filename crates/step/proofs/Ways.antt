@@ -1,27 +1,28 @@
 -- What a byte does, by the route that its stream has.
 -- Assumes nothing.
 use Prim.Native.Nat.{ℕ}
-use mathlib.Core.Path.{◌≡◌, refl, ap, sym, ◌∙◌}
-use mathlib.Core.List.{List}
-use Rattle.command.specs.declared.Step.{Step as Read}
-use Rattle.step.specs.Names.{Out, State, Host, Line, Tu, Route, Dropped, ToPrinter, ToHost, ToTu}
-use Rattle.step.specs.Route.{route}
-use Rattle.step.specs.State.{with_reader, with_sender, with_reading, with_incoming, with_motor}
-use Rattle.step.specs.Step.{text, hosted, lined, line_step, tued, tu_step}
+use mathlib.Core.Path.{◌≡◌, refl, sym}
+use mathlib.Core.Bool.{cond}
+use mathlib.Core.List.{List, []}
+use Rattle.step.specs.Names.{Settings, State, Route, Dropped, ToPrinter, ToHost, ToTu, Text}
+use Rattle.step.specs.Route.{is_printer}
+use Rattle.step.specs.State.{with_sender, with_reading, with_incoming, with_motor}
+use Rattle.step.specs.Hear.{asked_by}
+use Rattle.step.specs.Step.{quiet, text, lined, carried, tued}
+use Rattle.step.proofs.Hearing.{text_asked}
 
-pub line_as : (s : State) (c : ℕ) (x : Route) → route s.connection Line ≡ x → line_step s c ≡ lined x s c
-line_as s c x e = ap (λ (k : Route). lined k s c) e
+-- text and TU codes by whether their route is to the printer
+pub text_printed : (o : Settings) (k : Route) (bs : List ℕ) → text o k bs ≡ cond (is_printer k) (asked_by o Text bs) []
+text_printed o Dropped bs = refl
+text_printed o ToPrinter bs = sym (text_asked o bs)
+text_printed o ToHost bs = refl
+text_printed o ToTu bs = refl
 
-pub tu_as : (s : State) (c : ℕ) (x : Route) → route s.connection Tu ≡ x → tu_step s c ≡ tued x s c
-tu_as s c x e = ap (λ (k : Route). tued k s c) e
-
-pub text_as : (s : State) (bs : List ℕ) (x : Route) → route s.connection Host ≡ x → text s.settings (route s.connection Host) bs ≡ text s.settings x bs
-text_as s bs x e = ap (λ (k : Route). text s.settings k bs) e
-
-pub host_as : (s : State) (x : Read) (t : State) (out : Out) → t ≡ with_reader s x.reader → x.out ≡ out → hosted (with_reader s x.reader) s.reader.values x.out ≡ hosted t s.reader.values out
-host_as s x t out f g =
-    ap (λ (u : State). hosted u s.reader.values x.out) (sym f)
-    ∙ ap (λ (o : Out). hosted t s.reader.values o) g
+pub tu_printed : (k : Route) (s : State) (c : ℕ) → tued k s c ≡ cond (is_printer k) (carried s c) (quiet s)
+tu_printed Dropped s c = refl
+tu_printed ToPrinter s c = refl
+tu_printed ToHost s c = refl
+tu_printed ToTu s c = refl
 
 -- a line code changes the reading case alone
 pub lined_touches : (k : Route) (s : State) (c : ℕ) → (lined k s c).state ≡ with_reading s (lined k s c).state.reading

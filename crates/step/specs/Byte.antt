@@ -1,5 +1,6 @@
 -- What putting one byte's output into the free parts of the lent buffers gives.
-use Rattle.std.specs.Prelude.{ℕ, ◌≡◌, Bool, true, false, cond, ◌&&◌, List, leb, length}
+use Rattle.std.specs.Prelude.{ℕ, ◌≡◌, Bool, cond, ◌&&◌, List, leb, length, Option}
+use Rattle.std.specs.Bool.{then_some}
 use Rattle.laws.specs.Written.{fronted}
 use Rattle.step.specs.Names.{State, Stream, Host, Line, Tu, Took, Taken}
 use Rattle.step.specs.Step.{Step}
@@ -20,33 +21,24 @@ second_of Tu x = x.host
 abbrev pub fits : Stream → Step → ℕ → ℕ → Bool
 fits t x a b = leb (length (first_of t x)) a && leb (length (second_of t x)) b
 
--- one buffer: all of `new` at its front, or no place touched
-pub record Puts (after : State) (new old now : List ℕ) (r : Took) : Type 0 where
-  pub fits : r.fits ≡ leb (length new) (length old)
-  pub state : r.state ≡ after
-  pub count : r.count ≡ cond r.fits (length new) 0
-  pub places : now ≡ cond r.fits (fronted old new) old
+-- one buffer: all of `new` at its front, or no place touched where it does not fit
+pub record Puts (after : State) (new old now : List ℕ) (r : Option Took) : Type 0 where
+  pub gives : r ≡ then_some (leb (length new) (length old)) (record { state = after; count = length new })
+  pub places : now ≡ cond (leb (length new) (length old)) (fronted old new) old
 
--- both buffers: the byte's whole output, or no place touched
-pub record Offers (t : Stream) (x : Step) (old₁ old₂ now₁ now₂ : List ℕ) (r : Taken) : Type 0 where
-  pub fits : r.fits ≡ fits t x (length old₁) (length old₂)
-  pub state : r.state ≡ x.state
-  pub first : r.first ≡ cond r.fits (length (first_of t x)) 0
-  pub second : r.second ≡ cond r.fits (length (second_of t x)) 0
-  pub one : now₁ ≡ cond r.fits (fronted old₁ (first_of t x)) old₁
-  pub two : now₂ ≡ cond r.fits (fronted old₂ (second_of t x)) old₂
+-- both buffers: the byte's whole output, or no place touched where it does not fit
+pub record Offers (t : Stream) (x : Step) (old₁ old₂ now₁ now₂ : List ℕ) (r : Option Taken) : Type 0 where
+  pub gives : r ≡ then_some (fits t x (length old₁) (length old₂)) (record { state = x.state; first = length (first_of t x); second = length (second_of t x) })
+  pub one : now₁ ≡ cond (fits t x (length old₁) (length old₂)) (fronted old₁ (first_of t x)) old₁
+  pub two : now₂ ≡ cond (fits t x (length old₁) (length old₂)) (fronted old₂ (second_of t x)) old₂
 
 -- nothing to put
-abbrev pub none : State → Took
-none s = record { fits = true; state = s; count = 0 }
-
--- something that does not fit
-abbrev pub no_room : State → Took
-no_room s = record { fits = false; state = s; count = 0 }
+abbrev pub nothing : State → Taken
+nothing s = record { state = s; first = 0; second = 0 }
 
 -- what went into the first buffer, or the second, is all there is
 abbrev pub in_first : Took → Taken
-in_first r = record { fits = r.fits; state = r.state; first = r.count; second = 0 }
+in_first r = record { state = r.state; first = r.count; second = 0 }
 
 abbrev pub in_second : Took → Taken
-in_second r = record { fits = r.fits; state = r.state; first = 0; second = r.count }
+in_second r = record { state = r.state; first = 0; second = r.count }

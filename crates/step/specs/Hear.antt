@@ -1,14 +1,20 @@
 -- What the motor hears of the items, and what the host is told of it.
-use Rattle.std.specs.Prelude.{ℕ, ◌<◌, ◌≡◌, Bool, cond, not, ◌&&◌, List, [], ◌∷◌, ◌++◌, eqb, ltb}
+use Rattle.std.specs.Prelude.{ℕ, ◌≡◌, Bool, cond, not, ◌&&◌, List, [], ◌∷◌, ◌++◌, eqb, ltb}
+use Rattle.std.specs.Int.{from_bool}
 use Rattle.message.specs.Message.{message}
 use Rattle.motor.specs.Motor.{hearing, hearing_all, is_on}
-use Rattle.code.specs.declared.Conversion.{Conversion}
-use Rattle.sender.specs.Item.{wanted_of}
-use Rattle.step.specs.Names.{Calling, Connection, Wanted, Motor, State, Heard}
+use Rattle.sender.specs.Item.{wanted_by}
+use Rattle.sender.specs.Run.{asks_next}
+use Rattle.step.specs.Names.{Settings, Calling, Connection, Asks, Wanted, Motor, State, Heard}
 
 -- ports 1 to 3 have a motor, port 4 has none (a mode without a port has 0, and asks for nothing); while 53 is 0 nothing is heard
 unfoldable pub listens : Calling → Connection → Bool
 listens k c = not (eqb k.power 0) && ltb c.port 4
+
+-- what bytes ask for, one after the other
+abbrev pub asked_by : Settings → Asks → List ℕ → List Wanted
+asked_by o asks [] = []
+asked_by o asks (b ∷ bs) = wanted_by o asks b ++ asked_by o (asks_next o asks b) bs
 
 -- each item's code, before option 72
 abbrev pub codes_asked : List Wanted → List ℕ
@@ -17,7 +23,7 @@ codes_asked (w ∷ ws) = w.code ∷ codes_asked ws
 
 -- 1 on, 0 off
 abbrev pub powered : Motor → ℕ
-powered m = cond (is_on m.run) 1 0
+powered m = from_bool (is_on m.run)
 
 -- a change sends `-.TC,20,2,port,0` or 1
 abbrev pub change : ℕ → ℕ → ℕ → List ℕ
@@ -38,19 +44,9 @@ told_of s ws = cond (listens s.calling s.connection) (changes s.calling s.connec
 
 -- what the host is told of two items, by whether the motor was on before them, between them and after them
 abbrev pub tells : Heard → List ℕ
-tells h = change h.port h.was h.between ++ change h.port h.between h.after
+tells h = change h.port (from_bool h.was) (from_bool h.between) ++ change h.port (from_bool h.between) (from_bool h.after)
 
--- two items heard, where there are any
-abbrev pub heard_both : Calling → ℕ → Motor → Conversion → Conversion → Heard
-heard_both k port m x y =
-    let then = hearing_all k m (codes_asked (wanted_of x)) in
-    let last = hearing_all k then (codes_asked (wanted_of y)) in
-    record { motor = last; port = port; was = powered m; between = powered then; after = powered last }
-
--- one byte's items heard; the three numbers of what is told have one digit each
+-- one byte's items heard
 pub record Hears (s : State) (ws : List Wanted) (h : Heard) : Type 0 where
   pub motor : h.motor ≡ motor_after s ws
   pub tells : tells h ≡ told_of s ws
-  pub port : h.port < 10
-  pub between : h.between < 10
-  pub after : h.after < 10

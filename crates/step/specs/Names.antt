@@ -21,6 +21,7 @@ pub use Rattle.step.specs.declared.Route.{Route}
 pub use Rattle.step.specs.declared.Route.TheVariants.{Dropped, ToPrinter, ToHost, ToTu}
 pub use Rattle.step.specs.declared.Took.{Took}
 pub use Rattle.step.specs.declared.Taken.{Taken}
+pub use Rattle.sender.specs.declared.Asks.{Asks}
 pub use Rattle.sender.specs.declared.Asks.TheVariants.{Text, Codes}
 pub use Rattle.sender.specs.declared.Until.TheVariants.{Never}
 pub use Rattle.step.specs.declared.Heard.{Heard}

@@ -1,5 +1,5 @@
 // Host bytes: text to the line, commands to the settings and answers to the host.
-ghost use Rattle.std.specs.Prelude.{◌≡◌, [], ◌∷◌, ◌≤◌, drop};
+ghost use Rattle.std.specs.Prelude.{◌≡◌, ◌≤◌, drop};
 ghost use Rattle.command.specs.Read.{text_of};
 ghost use Rattle.settings.specs.Laws.{Sound};
 ghost use Rattle.step.specs.Names.{Host as Names-as-Host};
@@ -8,47 +8,54 @@ ghost use Rattle.step.specs.Step.{hosted};
 ghost use Rattle.step.specs.Byte.{Offers};
 
 use crate::answers::put_answer;
-use crate::puts::in_second;
 use crate::sends::put_text;
-use crate::states::with_reader;
 use crate::{State, Taken};
 use command::{Out, Step};
 
-// A byte of text, and from where on it is text with a `/` before it: 0 where that was held, 1 where it was not, 2 where there is no text.
+// The text that the command reader made of a byte: the end of a `/` and a byte, of both where the `/` was held.
 #[derive(Clone, Copy)]
 struct Said {
+    bytes: [u8; 2],
     from: usize,
-    byte: u8,
+    ghost within: { from ≤ 2 },
 }
 
-// The text that the command reader made of a byte.
-fn said_by(out: Out) -> Said
-    ensures { (drop result.from (47 ∷ result.byte ∷ []) ≡ text_of out) × (result.from ≤ 2) }
-{
-    match out {
-        Out::Nothing => Said { from: 2, byte: 0 },
-        Out::One(b) => Said { from: 1, byte: b },
-        Out::Two(b) => Said { from: 0, byte: b },
-        Out::Finished(_, _) => Said { from: 2, byte: 0 },
+impl Said {
+    // What is said by a byte; a command says nothing.
+    fn by(out: Out) -> Said
+        ensures { drop result.from result.bytes ≡ text_of out }
+    {
+        let (byte, from) = match out {
+            Out::Two(b) => (b, 0),
+            Out::One(b) => (b, 1),
+            Out::Nothing | Out::Finished(_, _) => (0, 2),
+        };
+        Said {
+            bytes: [b'/', byte],
+            from,
+        }
+    }
+
+    // Its bytes.
+    fn text(&self) -> &[u8]
+        ensures { result.now ≡ drop self.now.from self.now.bytes }
+    {
+        &self.bytes[self.from..]
     }
 }
 
 // One host byte, by what the command reader made of it, with the parts of the line and host buffers that are free. Text has one place here: what
 // is asked for in two is not compiled into either, and the state would be laid out for it with every command.
-pub fn put_read(s: State, x: Step, line: &mut [u8], host: &mut [u8]) -> Taken
+pub fn put_read(s: State, x: Step, line: &mut [u8], host: &mut [u8]) -> Option<Taken>
     requires { Sound s.settings s.calling s.connection }
     ensures { Offers Names-as-Host (hosted (with_reader s x.reader) s.reader.values x.out) line.old host.old line.new host.new result }
 {
-    let reader = s.reader;
-    let fields = reader.values;
-    let next = x.reader;
-    let out = x.out;
-    let t = with_reader(s, next);
-    if let Out::Finished(v, n) = out {
-        return in_second(put_answer(t, v, n, fields, host));
+    let t = State {
+        reader: x.reader,
+        ..s
+    };
+    if let Out::Finished(v, n) = x.out {
+        return Some(put_answer(t, v, n, s.reader.values, host)?.in_second());
     }
-    let said = said_by(out);
-    let from = said.from;
-    let two = [b'/', said.byte];
-    put_text(t, &two[from..2], line, host)
+    put_text(t, Said::by(x.out).text(), line, host)
 }

@@ -1,6 +1,8 @@
 // What one byte does: the state after it, and its output in the free parts of the lent buffers.
 #![tactic(auto)]
 
+ghost use Rattle.std.specs.Prelude.{◌<◌};
+
 mod answers;
 pub mod hears;
 pub mod host;
@@ -26,7 +28,7 @@ pub enum Stream {
 }
 
 // Where the bytes of a stream go: nowhere, to the printer, to the host or to the TU.
-#[derive(Clone, Copy)]
+#[derive(Clone, Copy, PartialEq, Eq)]
 pub enum Route {
     Dropped,
     ToPrinter,
@@ -48,29 +50,28 @@ pub struct State {
     pub motor: Motor,
 }
 
-// The motor after one byte's items, its port, and whether it was on (1) or off (0) before them, between them and after them.
+// The motor after one byte's items, its port, which has one digit, and whether it was on before them, between them and after them.
 #[derive(Clone, Copy)]
 pub struct Heard {
     pub motor: Motor,
     pub port: u8,
-    pub was: u8,
-    pub between: u8,
-    pub after: u8,
+    pub was: bool,
+    pub between: bool,
+    pub after: bool,
+    pub ghost one_digit: { port < 10 },
 }
 
-// One byte's output put into one buffer: the state after the byte, how many places were written, and whether all of it fits.
+// One byte's output put into one buffer: the state after the byte, and how many places were written.
 #[derive(Clone, Copy)]
 pub struct Took {
     pub state: State,
     pub count: usize,
-    pub fits: bool,
 }
 
-// One byte's output put into both buffers: the state after the byte, how many places were written, and whether all of it fits.
+// One byte's output put into both buffers: the state after the byte, and how many places were written.
 #[derive(Clone, Copy)]
 pub struct Taken {
     pub state: State,
     pub first: usize,
     pub second: usize,
-    pub fits: bool,
 }

@@ -6,6 +6,7 @@ use crate::{Route, Stream};
 use settings::Connection;
 
 // The route of a stream under a connection.
+#[tactic(auto, unfolding(crate::specs::Route::route))]
 pub fn route(c: Connection, t: Stream) -> Route
     ensures { result ≡ route c t }
 {
@@ -31,10 +32,5 @@ pub fn route(c: Connection, t: Stream) -> Route
 pub fn prints(c: Connection, t: Stream) -> bool
     ensures { result ≡ is_printer (route c t) }
 {
-    match route(c, t) {
-        Route::Dropped => false,
-        Route::ToPrinter => true,
-        Route::ToHost => false,
-        Route::ToTu => false,
-    }
+    route(c, t) == Route::ToPrinter
 }

@@ -6,7 +6,7 @@ use crate::State;
 use crate::states::fresh_sender;
 use code::Case;
 use command::Reader;
-use settings::{Connection, Setup};
+use settings::Connection;
 
 // The box as it is switched on: factory settings, mode 11, nothing held, the motor off.
 pub fn fresh() -> State
@@ -32,10 +32,5 @@ pub fn fresh() -> State
 pub fn is_sound(s: State) -> bool
     ensures { result ≡ sound s }
 {
-    let setup = Setup {
-        settings: s.settings,
-        calling: s.calling,
-        connection: s.connection,
-    };
-    setup.is_sound() & (s.reader.is_sound() & motor::is_sound(s.motor))
+    s.setup().is_sound() & (s.reader.is_sound() & motor::is_sound(s.motor))
 }

@@ -1,30 +1,20 @@
--- `step::sends::put_tu` meets its contract: each route has its case of `tued`.
-use mathlib.Core.Path.{refl, sym, ◌∙◌}
+-- `step::sends::put_tu` meets its contract: a code is printed or dropped, by its route.
+use mathlib.Core.Path.{refl}
 use Rattle.step.specs.Names.{Tu}
-use Rattle.step.specs.Step.{quiet}
-use Rattle.step.proofs.Bytes.{puts_none, offers_first}
-use Rattle.step.proofs.Ways.{tu_as}
+use Rattle.step.specs.Route.{route}
+use Rattle.step.specs.Step.{carried}
+use Rattle.step.proofs.Bytes.{offers_none}
+use Rattle.step.proofs.Sent.{as_tu}
+use Rattle.step.proofs.Ways.{tu_printed}
 use Rattle.step.proofs.sends.put_tu.Goals as goal
 
-pub returns-in-Dropped : goal.returns-in-Dropped
-returns-in-Dropped c =
+pub returns-then-prints : goal.returns-then-prints
+returns-then-prints c =
     let a = c.args in
-    rw (tu_as a.s a.c _ (sym c.route.ensures ∙ c.in-Dropped.is), c.in_first.ensures, c.none.ensures)
-    (offers_first Tu (quiet a.s) _ a.line.now a.host.now _ refl (puts_none a.s a.line.now))
+    rw (tu_printed (route a.s.connection Tu) a.s a.c, ← c.prints.ensures, c.if-prints.true)
+    (as_tu (carried a.s a.c) a.line.now a.host.now _ _ _ (rw (c.case.ensures, c.next.ensures) at c.put_asked.ensures))
 
-pub returns-in-ToPrinter : goal.returns-in-ToPrinter
-returns-in-ToPrinter c =
+pub returns-else-prints : goal.returns-else-prints
+returns-else-prints c =
     let a = c.args in
-    rw (tu_as a.s a.c _ (sym c.route.ensures ∙ c.in-ToPrinter.is)) c.put_code.ensures
-
-pub returns-in-ToHost : goal.returns-in-ToHost
-returns-in-ToHost c =
-    let a = c.args in
-    rw (tu_as a.s a.c _ (sym c.route.ensures ∙ c.in-ToHost.is), c.in_first-in-ToHost.ensures, c.none-in-ToHost.ensures)
-    (offers_first Tu (quiet a.s) _ a.line.now a.host.now _ refl (puts_none a.s a.line.now))
-
-pub returns-in-ToTu : goal.returns-in-ToTu
-returns-in-ToTu c =
-    let a = c.args in
-    rw (tu_as a.s a.c _ (sym c.route.ensures ∙ c.in-ToTu.is), c.in_first-in-ToTu.ensures, c.none-in-ToTu.ensures)
-    (offers_first Tu (quiet a.s) _ a.line.now a.host.now _ refl (puts_none a.s a.line.now))
+    rw (tu_printed (route a.s.connection Tu) a.s a.c, ← c.prints.ensures, c.if-prints.false, c.nothing.ensures) (offers_none Tu a.s a.line.now a.host.now refl refl)
