@@ -2,11 +2,19 @@
 -- Assumes nothing.
 use Prim.Native.Nat.{ℕ, suc, ◌+◌, ◌-◌, ◌<◌, ◌≤◌}
 use mathlib.Core.Path.{◌≡◌, refl, ap, sym, ◌∙◌}
-use mathlib.Core.Bool.{Bool, true, false, cond}
+use mathlib.Core.Bool.{Bool, true, false, cond, and-false}
 use mathlib.Core.List.{List, [], ◌∷◌, ◌++◌}
 use native.Mathlib.Omega.{arith}
 use native.Mathlib.Nat.{add-zero, zero-add, add-suc, suc-add, le_of_suc-le-suc, not-suc-le-zero}
 use lib.Dec.{eqb}
+use borrow.Author.Tests.{le-leb, lt-leb, eq-eqb, ne_eqb}
+use mathlib.Core.Logic.{inl, inr, ◌≢◌}
+use Rattle.std.proofs.Common.{Option}
+use Rattle.std.specs.Char.{UppercasesTo}
+use Rattle.std.specs.List.{AllWithin, HoldsAt}
+use Rattle.std.specs.Option.{MatchOption, unwrap_or}
+use Rattle.std.proofs.lemmas.Iterator.{index_from_first}
+use native.Mathlib.Numerals.{add-one}
 use lib.ListN.{length}
 use Rattle.code.specs.declared.Case.{Case}
 use Rattle.code.specs.declared.Case.TheVariants.{Letters, Figures}
@@ -70,3 +78,16 @@ module _ (b p : ℕ) (e : p ≡ place_in (letters ++ figures) (capital b)) where
       let h : 32 ≤ p = omega arith in
       let l : 32 ≤ place_in figures (capital b) = omega (arith, behind h) in
       sym (no_letter h ∙ seek_other Figures (capital b) Nothing 0 figures [] l)
+
+-- where the library's search stops in the rows is where the capital of a byte first stands
+capital_of : (b x : ℕ) → UppercasesTo b x → x ≡ capital b
+capital_of b x (inl (h, e)) = simp (le-leb 97 b h.0, le-leb b 122 h.1) (omega arith)
+capital_of b x (inr (inl h, e)) = simp (lt-leb 97 b h) e
+capital_of b x (inr (inr h, e)) = simp (lt-leb b 122 h, and-false) e
+
+pub placed : (rows : List ℕ) (b x : ℕ) (r : Option ℕ) → rows ≡ letters ++ figures → UppercasesTo b x
+    → MatchOption r (AllWithin (λ y. y ≢ x) rows 0 (length rows)) (λ i. (i < length rows) × HoldsAt (λ y. y ≡ x) rows i × AllWithin (λ y. y ≢ x) rows 0 i)
+    → unwrap_or r (length rows) ≡ place_in (letters ++ figures) (capital b)
+placed rows b x r e u f =
+    let n = index_from_first (λ ys. place_in ys x) (λ y. y ≡ x) (λ y. y ≢ x) refl (λ y ys h. rw (eq-eqb y x h)) (λ y ys h. rw (ne_eqb y x h, add-one)) rows r f in
+    sym n ∙ rw (e, capital_of b x u)

@@ -1,33 +1,31 @@
 -- `convert::look_up` meets its contract: what is lent is the letters and then the figures, so the place of the capital is what the
 -- search finds.
-use Prim.Native.Nat.{ℕ}
-use mathlib.Core.Path.{◌≡◌, ◌∙◌}
-use mathlib.Core.List.{List, ◌++◌}
-use native.Mathlib.Omega.{arith}
-use lib.ListN.{length}
-use borrow.Author.Rules.{rules}
+use Rattle.std.proofs.Common.{◌≡◌, ◌++◌, length, unwrap_or, ◌≢◌, ◌∙◌, rules, tests}
+use Rattle.std.proofs.lemmas.Iterator.{IsFirst-from_position, YieldsList-from_slice}
 use Rattle.code.specs.Rows.{letters, figures}
 use Rattle.code.specs.Convert.{capital, place_in}
-use Rattle.convert.proofs.Search.{in_letters, in_figures, in_neither}
+use Rattle.convert.proofs.Search.{in_letters, in_figures, in_neither, placed}
 use Rattle.convert.proofs.look_up.Goals as goal
-
-size : (rows : List ℕ) → rows ≡ letters ++ figures → length rows ≡ 64
-size rows e = rw e
+use Rattle.convert.proofs.look_up.Goals.{After-position}
 
 -- the place that is found is that of the capital in the letters and the figures
-placed : (rows : List ℕ) (b x p : ℕ) → rows ≡ letters ++ figures → x ≡ capital b → p ≡ place_in rows x → p ≡ place_in (letters ++ figures) (capital b)
-placed rows b x p e f g = rw (e, f) at g
+first : (c : After-position) → unwrap_or c.position.result (length c.args.table.now) ≡ place_in (letters ++ figures) (capital c.args.b)
+first c =
+    let x = c.to_ascii_uppercase-capital.result in
+    placed c.args.table.now c.args.b x c.position.result c.requires.lent c.to_ascii_uppercase-capital.ensures.cases
+    (IsFirst-from_position _ _ c.position.result (λ y. y ≡ x) (λ y. y ≢ x) c.position.ensures.ran (YieldsList-from_slice c.args.table.now cc) (λ y q k. search (rules, tests)) (λ y q k. search (rules, tests)))
 
-pub place_in-place-requires : goal.place_in-place-requires
-place_in-place-requires c =
-    let n = size c.args.table.now c.requires.lent in
-    omega (arith, n)
+pub returns-in-Some : goal.returns-in-Some
+returns-in-Some c =
+    let e = rw c.in-Some.is at (first (goal.at.returns-in-Some c).After-position) in
+    c.found.ensures ∙ in_letters c.args.b c.in-Some.place e c.if-place-lt32.true
 
-pub returns-then-place-lt32 : goal.returns-then-place-lt32
-returns-then-place-lt32 c = c.found.ensures ∙ in_letters _ _ (placed c.args.table.now c.args.b _ _ c.requires.lent c.capital.ensures c.place_in-place.ensures) (search rules)
+pub returns-in-Some-2 : goal.returns-in-Some-2
+returns-in-Some-2 c =
+    let e = rw c.in-Some.is at (first (goal.at.returns-in-Some-2 c).After-position) in
+    c.found-in-Some-2.ensures ∙ in_figures c.args.b c.in-Some.place e c.if-place-lt32.false (search rules)
 
-pub returns-then-place-lt64 : goal.returns-then-place-lt64
-returns-then-place-lt64 c = c.found-then-place-lt64.ensures ∙ in_figures _ _ (placed c.args.table.now c.args.b _ _ c.requires.lent c.capital.ensures c.place_in-place.ensures) (search rules) (search rules)
-
-pub returns : goal.returns
-returns c = in_neither _ _ (placed c.args.table.now c.args.b _ _ c.requires.lent c.capital.ensures c.place_in-place.ensures) (search rules)
+pub returns-in-None : goal.returns-in-None
+returns-in-None c =
+    let e = rw c.in-None.is at (first (goal.at.returns-in-None c).After-position) in
+    in_neither c.args.b _ e (search rules)
