@@ -32,7 +32,7 @@ fn front(s: &[u8], n: usize) -> &[u8]
 // Prints codes, each in decimal after a space, and says what stopped it, if something did.
 fn print_codes(rt: &impl Print, codes: &[u8]) -> Option<io::Error> {
     let mut text = [0u8; 262144];
-    let n = sheet::spell(codes, &mut text);
+    let n = sheet::spell(codes, &mut text).unwrap_or(0);
     rt.write_all(front(&text, n)).err()
 }
 

@@ -67,7 +67,7 @@ fn is_shown(form: Form, s: &[u8], text: &[u8]) -> bool {
     let mut out = [0u8; 1024];
     match form {
         Form::Decimal => {
-            let n = sheet::spell(s, &mut out);
+            let n = sheet::spell(s, &mut out).unwrap_or(0);
             front(&out, n) == text
         }
         Form::Escaped => {
@@ -82,7 +82,7 @@ fn print_shown(rt: &impl Print, form: Form, s: &[u8]) {
     print(rt, b"gave:");
     if let Form::Decimal = form {
         let mut out = [0u8; 1024];
-        let n = sheet::spell(s, &mut out);
+        let n = sheet::spell(s, &mut out).unwrap_or(0);
         print(rt, front(&out, n));
     } else {
         print(rt, s);
