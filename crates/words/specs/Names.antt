@@ -3,8 +3,7 @@ pub use Rattle.words.specs.declared.Phase.{Phase}
 pub use Rattle.words.specs.declared.Phase.TheVariants.{Start, Bare, Sheet, Ended}
 pub use Rattle.words.specs.declared.Word.{Word}
 pub use Rattle.words.specs.declared.Word.TheVariants as word
-pub use Rattle.words.specs.declared.Item.{Item}
-pub use Rattle.words.specs.declared.Item.TheVariants as item
+pub use Rattle.words.specs.declared.BadWord.{BadWord}
 pub use Rattle.words.specs.declared.Reader.{Reader}
 pub use Rattle.words.specs.declared.Read.{Read}
 pub use Rattle.words.specs.declared.Setting.{Setting}

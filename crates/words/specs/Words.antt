@@ -1,67 +1,72 @@
 -- The words of a record: codes in decimal, with white space between. On a log sheet the word `line` stands before them, and
 -- `host` ends them.
-use Rattle.std.specs.Prelude.{ℕ, min, ◌+◌, ◌-◌, ◌*◌, Bool, false, cond, ◌||◌, eqb, ltb, get_or, set, replicate, List, [], ◌∷◌}
-use Rattle.words.specs.Names.{Phase, Start, Bare, Sheet, Ended, Word, Item, Reader, Read}
+use Rattle.std.specs.Prelude.{ℕ, min, ◌+◌, ◌-◌, ◌*◌, Bool, cond, ◌||◌, eqb, ltb, set, take, replicate, List, [], ◌∷◌, bytes_eq, codes, Option, Some, None, option_map, option_and_then, Result, Ok, Err}
+use Rattle.words.specs.Names.{Phase, Start, Bare, Sheet, Ended, Word, BadWord, Reader, Read}
 use Rattle.words.specs.Names.word
-use Rattle.words.specs.Names.item
 
 -- tab, LF, CR and space
 abbrev pub white : ℕ → Bool
 white b = eqb b 32 || eqb b 10 || eqb b 9 || eqb b 13
 
--- the value of a decimal digit, 10 where it is none
-abbrev pub value : ℕ → ℕ
-value x = cond (ltb x 48) 10 (cond (ltb x 58) (x - 48) 10)
+-- the value of a decimal digit
+abbrev pub value : ℕ → Option ℕ
+value x = cond (ltb x 48) None (cond (ltb x 58) (Some (x - 48)) None)
 
 -- a number of one or two digits is a code up to 31
-abbrev pub coded : ℕ → Word
-coded n = cond (ltb n 32) (word.Code n) word.Other
+abbrev pub coded : ℕ → Option Word
+coded n = cond (ltb n 32) (Some (word.Code n)) None
 
-abbrev pub one_digit : ℕ → Word
-one_digit x = cond (ltb (value x) 10) (word.Code (value x)) word.Other
+abbrev pub one_digit : ℕ → Option Word
+one_digit x = option_map word.Code (value x)
 
-abbrev pub two_digits : ℕ → ℕ → Word
-two_digits x y = cond (ltb (value x) 10) (cond (ltb (value y) 10) (coded (value x * 10 + value y)) word.Other) word.Other
+abbrev pub two_digits : ℕ → ℕ → Option Word
+two_digits x y = option_and_then (λ m. option_and_then (λ n. coded (m * 10 + n)) (value y)) (value x)
 
-abbrev pub is_named : ℕ → ℕ → ℕ → ℕ → List ℕ → Bool
-is_named a b c d name = cond (eqb a (get_or name 0 0)) (cond (eqb b (get_or name 1 0)) (cond (eqb c (get_or name 2 0)) (eqb d (get_or name 3 0)) false) false) false
+-- a word of one or two bytes is a number
+abbrev pub digits : List ℕ → Option Word
+digits [] = None
+digits (x ∷ []) = one_digit x
+digits (x ∷ (y ∷ [])) = two_digits x y
+digits (x ∷ (y ∷ (z ∷ zs))) = None
 
--- `line` is 108 105 110 101, and `host` is 104 111 115 116
-abbrev pub named : ℕ → ℕ → ℕ → ℕ → Word
-named a b c d = cond (is_named a b c d (108 ∷ 105 ∷ 110 ∷ 101 ∷ [])) word.Line (cond (is_named a b c d (104 ∷ 111 ∷ 115 ∷ 116 ∷ [])) word.Host word.Other)
+-- what a word is by itself
+abbrev pub word_of : List ℕ → Option Word
+word_of s = cond (bytes_eq s (codes "line")) (Some word.Line) (cond (bytes_eq s (codes "host")) (Some word.Host) (digits s))
 
-abbrev pub word_of : ℕ → List ℕ → Word
-word_of size held =
-    cond (eqb size 1) (one_digit (get_or held 0 0))
-    (cond (eqb size 2) (two_digits (get_or held 0 0) (get_or held 1 0))
-    (cond (eqb size 4) (named (get_or held 0 0) (get_or held 1 0) (get_or held 2 0) (get_or held 3 0)) word.Other))
+-- the word that is held; none is longer than 16 bytes
+abbrev pub word_held : Reader → Option Word
+word_held r = cond (ltb 16 r.size) None (word_of (take r.size r.held))
 
--- where a word may stand
-abbrev pub item_at : Phase → Word → Item
-item_at Start word.Line = item.Nothing
-item_at Sheet word.Host = item.Nothing
-item_at Ended x = item.Nothing
-item_at Start (word.Code c) = item.Code c
-item_at Bare (word.Code c) = item.Code c
-item_at Sheet (word.Code c) = item.Code c
-item_at Start word.Host = item.Bad
-item_at Start word.Other = item.Bad
-item_at Bare word.Line = item.Bad
-item_at Bare word.Host = item.Bad
-item_at Bare word.Other = item.Bad
-item_at Sheet word.Line = item.Bad
-item_at Sheet word.Other = item.Bad
+-- a bad word
+abbrev pub bad : Result (Option ℕ) BadWord
+bad = Err (record {})
 
-abbrev pub phase_after : Phase → Word → Phase
-phase_after Start word.Line = Sheet
-phase_after Start word.Host = Start
-phase_after Start word.Other = Start
-phase_after Start (word.Code c) = Bare
+-- where a word may stand: a code is read, a name in its place is not, and any other word is bad
+abbrev pub item_at : Phase → Option Word → Result (Option ℕ) BadWord
+item_at Start (Some word.Line) = Ok None
+item_at Sheet (Some word.Host) = Ok None
+item_at Ended x = Ok None
+item_at Start (Some (word.Code c)) = Ok (Some c)
+item_at Bare (Some (word.Code c)) = Ok (Some c)
+item_at Sheet (Some (word.Code c)) = Ok (Some c)
+item_at Start (Some word.Host) = bad
+item_at Start None = bad
+item_at Bare (Some word.Line) = bad
+item_at Bare (Some word.Host) = bad
+item_at Bare None = bad
+item_at Sheet (Some word.Line) = bad
+item_at Sheet None = bad
+
+abbrev pub phase_after : Phase → Option Word → Phase
+phase_after Start (Some word.Line) = Sheet
+phase_after Start (Some word.Host) = Start
+phase_after Start None = Start
+phase_after Start (Some (word.Code c)) = Bare
 phase_after Bare x = Bare
-phase_after Sheet word.Host = Ended
-phase_after Sheet word.Line = Sheet
-phase_after Sheet word.Other = Sheet
-phase_after Sheet (word.Code c) = Sheet
+phase_after Sheet (Some word.Host) = Ended
+phase_after Sheet (Some word.Line) = Sheet
+phase_after Sheet None = Sheet
+phase_after Sheet (Some (word.Code c)) = Sheet
 phase_after Ended x = Ended
 
 abbrev pub fresh : Reader
@@ -72,16 +77,15 @@ abbrev pub next : Reader → Phase → Reader
 next r phase = record { held = r.held; size = 0; place = min 0xffff_ffff_ffff_ffff (r.place + 1); phase = phase }
 
 -- a word is read at the white space after it; one that is bad stays held
-abbrev pub settled : Item → Reader → Phase → Read
-settled item.Bad r phase = record { reader = r; item = item.Bad }
-settled item.Nothing r phase = record { reader = next r phase; item = item.Nothing }
-settled (item.Code c) r phase = record { reader = next r phase; item = item.Code c }
+abbrev pub settled : Result (Option ℕ) BadWord → Reader → Phase → Read
+settled (Err e) r phase = record { reader = r; item = Err e }
+settled (Ok code) r phase = record { reader = next r phase; item = Ok code }
 
 abbrev pub waiting : Reader → Read
-waiting r = record { reader = r; item = item.Nothing }
+waiting r = record { reader = r; item = Ok None }
 
 abbrev pub finish : Reader → Read
-finish r = cond (eqb r.size 0) (waiting r) (settled (item_at r.phase (word_of r.size r.held)) r (phase_after r.phase (word_of r.size r.held)))
+finish r = cond (eqb r.size 0) (waiting r) (settled (item_at r.phase (word_held r)) r (phase_after r.phase (word_held r)))
 
 -- one byte more of a word; past 16 they are only counted, up to 17
 abbrev pub more : Reader → ℕ → Reader
