@@ -9,20 +9,29 @@
 ghost use Rattle.std.specs.Prelude.{◌≤◌, length};
 
 use entries::tables::{Entry, run_entry};
-use entries::text::{Form, after_bar, before_bar, byte_at, decode, find, front};
-use entries::traces::{
-    Ran, Start, Verdict, form_first, form_second, form_taken, judged, lending, limited, prepared,
-    ready,
-};
+use entries::text::{Form, after_bar, before_bar, byte_at, decode, front};
+use entries::traces::{Ran, Start, judged, prepared, ready};
 use linebox::Called;
+use std::io;
 use std::io::Read;
 use step::Stream;
 
 // How many vectors of a kind were run, and how many differ.
-#[derive(Clone, Copy)]
+#[derive(Clone, Copy, Default)]
 struct Tally {
     run: u64,
     differ: u64,
+}
+
+impl Tally {
+    // Counts one vector more; one that differs is printed.
+    fn count(&mut self, rt: &impl Print, same: bool, s: &[u8]) {
+        self.run = self.run.wrapping_add(1);
+        if !same {
+            self.differ = self.differ.wrapping_add(1);
+            let _ = print_differs(rt, s);
+        }
+    }
 }
 
 // What was run of each kind, and what the next line starts with.
@@ -34,32 +43,11 @@ struct Tallies {
     next: Start,
 }
 
-// Prints some bytes, as far as they can be written.
-fn print(rt: &impl Print, s: &[u8]) {
-    let _ = rt.write_all(s);
-}
-
-// Prints a number in decimal, as far as it can be written.
-fn print_decimal(rt: &impl Print, n: u64) {
-    let _ = rt.print(n);
-}
-
-// A tally with one vector more; one that differs is printed.
-fn counted(rt: &impl Print, t: Tally, same: bool, s: &[u8]) -> Tally {
-    let run = t.run.wrapping_add(1);
-    if same {
-        return Tally {
-            run,
-            differ: t.differ,
-        };
-    }
-    print(rt, b"differs: ");
-    print(rt, s);
-    print(rt, b"\n");
-    Tally {
-        run,
-        differ: t.differ.wrapping_add(1),
-    }
+// Prints a vector that differs.
+fn print_differs(rt: &impl Print, s: &[u8]) -> io::Result<()> {
+    print!(rt; "differs: ")?;
+    rt.write_all(s)?;
+    println!(rt)
 }
 
 // Bytes are those that a text means.
@@ -78,23 +66,24 @@ fn is_shown(form: Form, s: &[u8], text: &[u8]) -> bool {
 }
 
 // Prints what a box gave.
-fn print_shown(rt: &impl Print, form: Form, s: &[u8]) {
-    print(rt, b"gave:");
-    if let Form::Decimal = form {
-        let mut out = [0u8; 1024];
-        let n = sheet::spell(s, &mut out).unwrap_or(0);
-        print(rt, front(&out, n));
-    } else {
-        print(rt, s);
+fn print_shown(rt: &impl Print, form: Form, s: &[u8]) -> io::Result<()> {
+    print!(rt; "gave:")?;
+    match form {
+        Form::Decimal => {
+            let mut out = [0u8; 1024];
+            let n = sheet::spell(s, &mut out).unwrap_or(0);
+            rt.write_all(front(&out, n))?;
+        }
+        Form::Escaped => rt.write_all(s)?,
     }
-    print(rt, b"; ");
+    print!(rt; "; ")
 }
 
 // A call's answer and the count it took are those of a text, or all that was left where the text is empty.
 fn is_ended(c: Called, left: usize, text: &[u8]) -> bool {
     let answer = c.answer;
     let number = linebox::number_of(answer);
-    if text.len() == 0 {
+    if text.is_empty() {
         return number == 0 && c.taken == left;
     }
     is_shown(
@@ -105,35 +94,14 @@ fn is_ended(c: Called, left: usize, text: &[u8]) -> bool {
 }
 
 // A call of a stream that lends the rooms asked for.
-fn call(t: Stream, b: Start, input: &[u8], one: &mut [u8], two: &mut [u8]) -> Called
-    requires { (255 ≤ length one.old) × (255 ≤ length two.old) }
-{
-    let state = b.state;
-    let from = b.from as usize;
-    let first = b.first as usize;
-    let second = b.second as usize;
+fn call(t: Stream, b: Start, input: &[u8], one: &mut [u8; 255], two: &mut [u8; 255]) -> Called {
+    let from = usize::from(b.from);
+    let first = &mut one[..usize::from(b.first)];
+    let second = &mut two[..usize::from(b.second)];
     match t {
-        Stream::Host => linebox::calls::host(
-            state,
-            input,
-            from,
-            &mut one[0..first],
-            &mut two[0..second],
-        ),
-        Stream::Line => linebox::calls::line(
-            state,
-            input,
-            from,
-            &mut one[0..first],
-            &mut two[0..second],
-        ),
-        Stream::Tu => linebox::calls::tu(
-            state,
-            input,
-            from,
-            &mut one[0..first],
-            &mut two[0..second],
-        ),
+        Stream::Host => linebox::calls::host(b.state, input, from, first, second),
+        Stream::Line => linebox::calls::line(b.state, input, from, first, second),
+        Stream::Tu => linebox::calls::tu(b.state, input, from, first, second),
     }
 }
 
@@ -143,23 +111,22 @@ fn run_call(rt: &impl Print, t: Stream, b: Start, s: &[u8]) -> Ran {
     let first = after_bar(given);
     let second = after_bar(first);
     let mut input = [0u8; 512];
-    let n = decode(form_taken(t), before_bar(given), &mut input);
+    let n = decode(Form::taken(t), before_bar(given), &mut input);
     let whole = front(&input, n);
     let mut one = [0u8; 255];
     let mut two = [0u8; 255];
     let r = call(t, b, whole, &mut one, &mut two);
-    let left = linebox::calls::rest(whole, b.from as usize).len();
+    let left = linebox::calls::rest(whole, usize::from(b.from)).len();
     let sent = front(&one, r.first);
     let told = front(&two, r.second);
     let same = is_ended(r, left, before_bar(after_bar(second)))
-        && is_shown(form_first(t), sent, before_bar(first))
-        && is_shown(form_second(t), told, before_bar(second));
+        && is_shown(Form::first(t), sent, before_bar(first))
+        && is_shown(Form::second(t), told, before_bar(second));
     if !same {
-        print_shown(rt, form_first(t), sent);
-        print_shown(rt, form_second(t), told);
+        let _ = print_shown(rt, Form::first(t), sent);
+        let _ = print_shown(rt, Form::second(t), told);
     }
-    let next = r.state;
-    judged(same, next)
+    judged(same, r.state)
 }
 
 // `F|bytes|message|`: the finder.
@@ -170,10 +137,9 @@ fn run_find(rt: &impl Print, b: Start, s: &[u8]) -> Ran {
     let found = message::find(front(&input, n));
     let same = is_shown(Form::Escaped, found, before_bar(after_bar(given)));
     if !same {
-        print_shown(rt, Form::Escaped, found);
+        let _ = print_shown(rt, Form::Escaped, found);
     }
-    let state = b.state;
-    judged(same, state)
+    judged(same, b.state)
 }
 
 // One traced line.
@@ -184,79 +150,44 @@ fn run_trace(rt: &impl Print, b: Start, s: &[u8]) -> Ran {
         b'T' => run_call(rt, Stream::Tu, b, s),
         b'F' => run_find(rt, b, s),
         b'N' => prepared(ready(step::soundness::fresh())),
-        b'R' => prepared(lending(b, s)),
-        b'Z' => prepared(limited(b, s)),
+        b'R' => prepared(b.lending(s)),
+        b'Z' => prepared(b.limited(s)),
         _ => prepared(b),
     }
 }
 
-// The tally of traces after a line.
-fn traced(rt: &impl Print, t: Tally, v: Verdict, s: &[u8]) -> Tally {
-    match v {
-        Verdict::Other => t,
-        Verdict::Same => counted(rt, t, true, s),
-        Verdict::Differs => counted(rt, t, false, s),
+impl Tallies {
+    // Nothing run yet, and a fresh box.
+    fn fresh() -> Tallies {
+        Tallies {
+            ascii: Tally::default(),
+            ustty: Tally::default(),
+            traces: Tally::default(),
+            next: ready(step::soundness::fresh()),
+        }
     }
-}
 
-// All tallies after a line.
-fn tallied(rt: &impl Print, t: Tallies, s: &[u8]) -> Tallies {
-    let ascii = t.ascii;
-    let ustty = t.ustty;
-    let traces = t.traces;
-    let start = t.next;
-    match run_entry(s) {
-        Entry::Ascii(same) => Tallies {
-            ascii: counted(rt, ascii, same, s),
-            ustty,
-            traces,
-            next: start,
-        },
-        Entry::Ustty(same) => Tallies {
-            ascii,
-            ustty: counted(rt, ustty, same, s),
-            traces,
-            next: start,
-        },
-        Entry::Other => {
-            let r = run_trace(rt, start, s);
-            let verdict = r.verdict;
-            let next = r.next;
-            Tallies {
-                ascii,
-                ustty,
-                traces: traced(rt, traces, verdict, s),
-                next,
+    // Runs one line.
+    fn run_line(&mut self, rt: &impl Print, s: &[u8]) {
+        match run_entry(s) {
+            Some(Entry::Ascii(same)) => self.ascii.count(rt, same, s),
+            Some(Entry::Ustty(same)) => self.ustty.count(rt, same, s),
+            None => {
+                let r = run_trace(rt, self.next, s);
+                if let Some(same) = r.same {
+                    self.traces.count(rt, same, s);
+                }
+                self.next = r.next;
             }
         }
     }
-}
 
-// All lines of the text.
-fn run_all(rt: &impl Print, s: &[u8]) -> Tallies {
-    let none = Tally { run: 0, differ: 0 };
-    let mut t = Tallies {
-        ascii: none,
-        ustty: none,
-        traces: none,
-        next: ready(step::soundness::fresh()),
-    };
-    let mut at = 0;
-    while at < s.len() {
-        let end = at + find(&s[at..], b'\n');
-        t = tallied(rt, t, &s[at..end]);
-        at = end + 1;
+    // Runs all lines of the text.
+    fn run_all(&mut self, rt: &impl Print, s: &[u8]) {
+        for line in s.split(|b| *b == b'\n') {
+            self.run_line(rt, line);
+        }
     }
-    t
-}
-
-// Prints the name of a kind of vectors, what one is called, and their tally.
-fn print_tally(rt: &impl Print, name: &[u8], t: Tally, each: &[u8]) {
-    print(rt, name);
-    print_decimal(rt, t.run);
-    print(rt, each);
-    print_decimal(rt, t.differ);
-    print(rt, b" differ\n");
 }
 
 // Reads until the buffer is full or the input ends or fails, and gives how many bytes came.
@@ -264,12 +195,8 @@ fn read_full(input: &mut impl Read, s: &mut [u8]) -> usize
     ensures { result ≤ length s.new }
 {
     let mut n = 0;
-    while n < s.len() {
-        match input.read(&mut s[n..]) {
-            Ok(0) => return n,
-            Ok(more) => n += more,
-            Err(_) => return n,
-        }
+    while let Ok(more @ 1..) = input.read(&mut s[n..]) {
+        n += more;
     }
     n
 }
@@ -277,11 +204,18 @@ fn read_full(input: &mut impl Read, s: &mut [u8]) -> usize
 fn main(rt: HostRuntime) {
     let mut text = [0u8; 65536];
     let n = read_full(&mut rt.reader(), &mut text);
-    let t = run_all(&rt, &text[..n]);
-    let ascii = t.ascii;
-    let ustty = t.ustty;
-    let traces = t.traces;
-    print_tally(&rt, b"ASCII-67 to USTTY: ", ascii, b" entries, ");
-    print_tally(&rt, b"USTTY to ASCII-67: ", ustty, b" entries, ");
-    print_tally(&rt, b"Traces and commands: ", traces, b" vectors, ");
+    let mut t = Tallies::fresh();
+    t.run_all(&rt, &text[..n]);
+    let _ = println!(&rt;
+        "ASCII-67 to USTTY: {} entries, {} differ",
+        t.ascii.run, t.ascii.differ
+    );
+    let _ = println!(&rt;
+        "USTTY to ASCII-67: {} entries, {} differ",
+        t.ustty.run, t.ustty.differ
+    );
+    let _ = println!(&rt;
+        "Traces and commands: {} vectors, {} differ",
+        t.traces.run, t.traces.differ
+    );
 }

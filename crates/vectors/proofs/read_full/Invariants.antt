@@ -2,8 +2,8 @@
 use Rattle.std.proofs.Common.{length, ◌-◌, ◌≤◌}
 use Rattle.vectors.proofs.read_full.Given as goal
 
-abbrev pub invariant-loop-n : goal.invariant-loop-n
-invariant-loop-n g l = l.n ≤ length l.s
+abbrev pub invariant-loop-more : goal.invariant-loop-more
+invariant-loop-more g l = l.n ≤ length l.s
 
-abbrev pub decreases-loop-n : goal.decreases-loop-n
-decreases-loop-n g l = length l.s - l.n
+abbrev pub decreases-loop-more : goal.decreases-loop-more
+decreases-loop-more g l = length l.s - l.n
