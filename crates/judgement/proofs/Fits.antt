@@ -9,12 +9,12 @@ use native.Mathlib.Omega.{arith}
 use lib.Dec.{eqb, ltb}
 use lib.ListN.{get_or}
 use borrow.Author.Tests.{ltb-true, ltb-false, eq-eqb}
+use Rattle.std.specs.Prelude.{Option, Some, None}
 use Rattle.code.specs.Rows.{row_at}
 use Rattle.code.specs.Kinds.{kind_alike, kind_of, strikes, dependent}
 use Rattle.code.proofs.Laws.{alike}
 use Rattle.printer.specs.Printer.{unshifted, hear_kind, advanced, from}
-use Rattle.judgement.specs.Names.{Case, Letters, Figures, Kind, Still, Space, Return, Shift, Char, Printer, Known, Spot, At, From, Landing, Nowhere, There, Somewhere, Watch, Verdict, Line}
-use Rattle.judgement.specs.Names.known
+use Rattle.judgement.specs.Names.{Case, Letters, Figures, Kind, Still, Space, Return, Shift, Char, Printer, Spot, At, From, Watch, Verdict, Line}
 use Rattle.judgement.specs.Names.verdict
 use Rattle.judgement.specs.Stop.{clip, hear_stop}
 use Rattle.judgement.specs.Watch.{shown_by, within, moved, blurred, spot_char, watch_kind, watch}
@@ -46,15 +46,15 @@ may_move stop (At n) m false h w = cut stop n (min stop m) (omega arith) (omega 
 may_move stop (From n) m true h w = cut stop n (min stop (m + 1)) (omega arith) (omega arith)
 may_move stop (From n) m false h w = cut stop n (min stop m) (omega arith) (omega arith)
 
-spot_char_law : (stop : ℕ) (s : Spot) (m : ℕ) (bell : Bool) (k : Known) (case : Case) → FitsCase k case → FitsSpot s m → m ≤ stop → FitsSpot (spot_char bell k stop s) (min stop (advanced (strikes bell case) m))
+spot_char_law : (stop : ℕ) (s : Spot) (m : ℕ) (bell : Bool) (k : Option Case) (case : Case) → FitsCase k case → FitsSpot s m → m ≤ stop → FitsSpot (spot_char bell k stop s) (min stop (advanced (strikes bell case) m))
 spot_char_law stop s m false k case f h w = moves_on stop s m h
-spot_char_law stop s m true known.Unknown case f h w = may_move stop s m (strikes true case) h w
-spot_char_law stop s m true (known.Is Letters) case f h w = rw (← f) (moves_on stop s m h)
-spot_char_law stop s m true (known.Is Figures) case f h w = rw (← f) (stays stop s m h w)
+spot_char_law stop s m true None case f h w = may_move stop s m (strikes true case) h w
+spot_char_law stop s m true (Some Letters) case f h w = rw (← f) (moves_on stop s m h)
+spot_char_law stop s m true (Some Figures) case f h w = rw (← f) (stays stop s m h w)
 
 -- The printer's case.
 
-falls : (own fell : Bool) (meant : Known) (case : Case) → FitsCase (shown_by fell meant) case → FitsCase (shown_by (own || fell) meant) (unshifted own case)
+falls : (own fell : Bool) (meant : Option Case) (case : Case) → FitsCase (shown_by fell meant) case → FitsCase (shown_by (own || fell) meant) (unshifted own case)
 falls true fell meant case f = refl
 falls false fell meant case f = f
 
@@ -97,16 +97,16 @@ fits c f = fits_kind (kind_of c) f
 
 -- The judgement.
 
-sign : (k : Known) (case : Case) (c : ℕ) → FitsCase k case → FitsSign (sign_as k (kind_of c) c) (row_at case c)
+sign : (k : Option Case) (case : Case) (c : ℕ) → FitsCase k case → FitsSign (sign_as k (kind_of c) c) (row_at case c)
 sign k case c f = go (kind_of c) refl k f
   where
-    go : (kind : Kind) → kind_of c ≡ kind → (k : Known) → FitsCase k case → FitsSign (sign_as k kind c) (row_at case c)
+    go : (kind : Kind) → kind_of c ≡ kind → (k : Option Case) → FitsCase k case → FitsSign (sign_as k kind c) (row_at case c)
     go Still e k f = alike c Letters case (ap dependent e)
     go Space e k f = alike c Letters case (ap dependent e)
     go Return e k f = alike c Letters case (ap dependent e)
     go (Shift to) e k f = alike c Letters case (ap dependent e)
-    go (Char bell) e known.Unknown f = tt
-    go (Char bell) e (known.Is a) f = rw f
+    go (Char bell) e None f = tt
+    go (Char bell) e (Some a) f = rw f
 
 -- what is said to be struck is what the printer strikes, and what is said to be meant is what the sender meant
 pub struck_true : {w : Watch} {p : Printer} {s : Case} (c : ℕ) → Fits w p s → FitsSign (struck_by w c) (row_at p.case c)
@@ -115,13 +115,13 @@ struck_true {w} {p} {s} c f = sign (shown_by w.fell w.meant) p.case c f.shown
 pub meant_true : {w : Watch} {p : Printer} {s : Case} (c : ℕ) → Fits w p s → FitsSign (meant_by w c) (row_at s c)
 meant_true {w} {p} {s} c f = sign w.meant s c f.meant
 
-own_char_law : (bell fell : Bool) (meant : Known) (p s : Case) → FitsCase meant s → FitsCase (shown_by fell meant) p → Claims (own_char bell meant fell) p s
-own_char_law bell fell known.Unknown p s m h = tt
-own_char_law bell true (known.Is Letters) p s m h = sym h ∙ m
-own_char_law bell false (known.Is Letters) p s m h = sym h ∙ m
-own_char_law bell true (known.Is Figures) p s m h = (sym h, sym m)
-own_char_law false false (known.Is Figures) p s m h = sym h ∙ m
-own_char_law true false (known.Is Figures) p s m h = tt
+own_char_law : (bell fell : Bool) (meant : Option Case) (p s : Case) → FitsCase meant s → FitsCase (shown_by fell meant) p → Claims (own_char bell meant fell) p s
+own_char_law bell fell None p s m h = tt
+own_char_law bell true (Some Letters) p s m h = sym h ∙ m
+own_char_law bell false (Some Letters) p s m h = sym h ∙ m
+own_char_law bell true (Some Figures) p s m h = (sym h, sym m)
+own_char_law false false (Some Figures) p s m h = sym h ∙ m
+own_char_law true false (Some Figures) p s m h = tt
 
 -- kept: the printer was in the sender's case; turned: it was in letters, and figures were meant
 pub own_true : {w : Watch} {p : Printer} {s : Case} (k : Kind) → Fits w p s → Claims (own w k) p.case s
@@ -131,15 +131,15 @@ own_true Return f = tt
 own_true (Shift to) f = tt
 own_true {w} {p} {s} (Char bell) f = own_char_law bell w.fell w.meant p.case s f.meant f.shown
 
-final_claims : (x : Landing) (l : Line) (v : Verdict) (p s : Case) → Claims v p s → Claims (final l x v) p s
-final_claims Nowhere l v p s h = h
-final_claims (There n) l v p s h = go (eqb (get_or l.stand n 0) 3) (eqb l.strays 0)
+final_claims : (x : Option Spot) (l : Line) (v : Verdict) (p s : Case) → Claims v p s → Claims (final l x v) p s
+final_claims None l v p s h = h
+final_claims (Some (At n)) l v p s h = go (eqb (get_or l.stand n 0) 3) (eqb l.strays 0)
   where
     go : (a b : Bool) → Claims (cond a verdict.Over (cond b v verdict.Unknown)) p s
     go true b = tt
     go false true = h
     go false false = tt
-final_claims (Somewhere n) l v p s h = tt
+final_claims (Some (From n)) l v p s h = tt
 
 -- the same of the judgement in the end, on whatever line
 pub verdict_true : {w : Watch} {p : Printer} {s : Case} (l : Line) (c : ℕ) → Fits w p s → Claims (judgement w l c).verdict p.case s
@@ -148,7 +148,7 @@ verdict_true {w} {p} {s} l c f = final_claims (lands w (kind_of c)) l (own w (ki
 -- The start.
 
 -- what is said of the start fits every printer and sender of which it is true
-pub start_fits : (k : Known) (spot : Spot) (stop : ℕ) (a b : Bool) (case : Case) (m : ℕ) → FitsCase k case → FitsSpot spot m → m ≤ stop → Fits (start k spot stop a b).watch (from case m a b) case
+pub start_fits : (k : Option Case) (spot : Spot) (stop : ℕ) (a b : Bool) (case : Case) (m : ℕ) → FitsCase k case → FitsSpot spot m → m ≤ stop → Fits (start k spot stop a b).watch (from case m a b) case
 start_fits k spot stop a b case m f e h = record { meant = f; shown = f; spot = placed spot e; short = h; space = refl; return = refl }
   where
     placed : (spot : Spot) → FitsSpot spot m → FitsSpot (within stop spot) m

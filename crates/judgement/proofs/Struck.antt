@@ -10,10 +10,10 @@ use lib.Dec.{eqb}
 use lib.ListN.{length, get_or, set, length-set}
 use lib.Seq.{get_or-set_same, get_or-set_other}
 use borrow.Author.Tests.{eqb-true, eqb-false, ne_eqb}
+use Rattle.std.specs.Prelude.{Option, Some, None}
 use Rattle.code.specs.Kinds.{kind_of, strikes, moves}
 use Rattle.printer.specs.Printer.{landing}
-use Rattle.judgement.specs.Names.{Case, Letters, Figures, Kind, Still, Space, Return, Shift, Char, Printer, Known, Spot, At, From, Landing, Nowhere, There, Somewhere, Verdict, Watch, Line}
-use Rattle.judgement.specs.Names.known
+use Rattle.judgement.specs.Names.{Case, Letters, Figures, Kind, Still, Space, Return, Shift, Char, Printer, Spot, At, From, Verdict, Watch, Line}
 use Rattle.judgement.specs.Stop.{prints_all_stop, hits, times, NoReturn}
 use Rattle.judgement.specs.Watch.{shown_by, watch}
 use Rattle.judgement.specs.Verdict.{number_of, own_char, own, lands_char, lands, strike_of}
@@ -39,15 +39,15 @@ same_there stand m n v = go (eqb m n) refl
     go true e = let s : m ≡ n = eqb-true m n e in rw s
     go false e = refl
 
-strike_at_law : (n : ℕ) (x : Landing) (l : Line) (ink : ℕ) (v : Verdict) → n < length l.stand → get_or (strike_at x l ink v).stand n 0 ≡ stand_at n x (get_or l.stand n 0) v
-strike_at_law n Nowhere l ink v h = refl
-strike_at_law n (There m) l ink v h = set_stand l.stand m n (stand_after (get_or l.stand m 0) v) h ∙ same_there l.stand m n v
-strike_at_law n (Somewhere m) l ink v h = refl
+strike_at_law : (n : ℕ) (x : Option Spot) (l : Line) (ink : ℕ) (v : Verdict) → n < length l.stand → get_or (strike_at x l ink v).stand n 0 ≡ stand_at n x (get_or l.stand n 0) v
+strike_at_law n None l ink v h = refl
+strike_at_law n (Some (At m)) l ink v h = set_stand l.stand m n (stand_after (get_or l.stand m 0) v) h ∙ same_there l.stand m n v
+strike_at_law n (Some (From m)) l ink v h = refl
 
-pub strike_length : (x : Landing) (l : Line) (ink : ℕ) (v : Verdict) → length (strike_at x l ink v).stand ≡ length l.stand
-strike_length Nowhere l ink v = refl
-strike_length (There m) l ink v = simp length-set
-strike_length (Somewhere m) l ink v = refl
+pub strike_length : (x : Option Spot) (l : Line) (ink : ℕ) (v : Verdict) → length (strike_at x l ink v).stand ≡ length l.stand
+strike_length None l ink v = refl
+strike_length (Some (At m)) l ink v = simp length-set
+strike_length (Some (From m)) l ink v = refl
 
 -- each place of the line stands as its own strikes say
 pub place_stands : (n : ℕ) (w : Watch) (l : Line) (cs : List ℕ) → n < length l.stand → get_or (line_of w l cs).stand n 0 ≡ stands_at n w (get_or l.stand n 0) cs
@@ -63,14 +63,14 @@ place_stands n w l (c ∷ cs) h =
 abbrev pub single : ℕ → Bool
 single x = eqb x 1 || eqb x 2 || eqb x 4
 
-single_own : (bell fell : Bool) (meant : Known) (s : Spot) (m : ℕ) → lands_char bell (shown_by fell meant) s ≡ There m → single (number_of (own_char bell meant fell)) ≡ true
-single_own bell fell known.Unknown s m e = refl
-single_own bell fell (known.Is Letters) s m e = refl
-single_own bell true (known.Is Figures) s m e = refl
-single_own false false (known.Is Figures) s m e = refl
-single_own true false (known.Is Figures) s m e = let z : true ≡ false = cc in absurd (true≢false z)
+single_own : (bell fell : Bool) (meant : Option Case) (s : Spot) (m : ℕ) → lands_char bell (shown_by fell meant) s ≡ Some (At m) → single (number_of (own_char bell meant fell)) ≡ true
+single_own bell fell None s m e = refl
+single_own bell fell (Some Letters) s m e = refl
+single_own bell true (Some Figures) s m e = refl
+single_own false false (Some Figures) s m e = refl
+single_own true false (Some Figures) s m e = let z : true ≡ false = cc in absurd (true≢false z)
 
-pub single_lands : (w : Watch) (k : Kind) (m : ℕ) → lands w k ≡ There m → single (number_of (own w k)) ≡ true
+pub single_lands : (w : Watch) (k : Kind) (m : ℕ) → lands w k ≡ Some (At m) → single (number_of (own w k)) ≡ true
 single_lands w Still m e = let z : true ≡ false = cc in absurd (true≢false z)
 single_lands w Space m e = let z : true ≡ false = cc in absurd (true≢false z)
 single_lands w Return m e = let z : true ≡ false = cc in absurd (true≢false z)
@@ -81,14 +81,14 @@ single_lands w (Char bell) m e = single_own bell w.fell w.meant w.spot m e
 hit_cases : (P : ℕ → ℕ → Type 0) (n was : ℕ) (w : Watch) (k : Kind) → ((v : ℕ) → single v ≡ true → P 1 (cond (eqb was 0) v 3)) → P 0 was → P (lands_at n (lands w k)) (stand_at n (lands w k) was (own w k))
 hit_cases P n was w k hit none = go (lands w k) refl
   where
-    there : (m : ℕ) (b : Bool) → lands w k ≡ There m → P (cond b 1 0) (cond b (stand_after was (own w k)) was)
+    there : (m : ℕ) (b : Bool) → lands w k ≡ Some (At m) → P (cond b 1 0) (cond b (stand_after was (own w k)) was)
     there m true e = hit (number_of (own w k)) (single_lands w k m e)
     there m false e = none
 
-    go : (x : Landing) → lands w k ≡ x → P (lands_at n x) (stand_at n x was (own w k))
-    go Nowhere e = none
-    go (There m) e = there m (eqb m n) e
-    go (Somewhere m) e = none
+    go : (x : Option Spot) → lands w k ≡ x → P (lands_at n x) (stand_at n x was (own w k))
+    go None e = none
+    go (Some (At m)) e = there m (eqb m n) e
+    go (Some (From m)) e = none
 
 pub spoiled : (n : ℕ) (w : Watch) (cs : List ℕ) → stands_at n w 3 cs ≡ 3
 spoiled n w [] = refl
@@ -153,14 +153,14 @@ module _ (n : ℕ) (w : Watch) (l : Line) (cs : List ℕ) (h : n < length l.stan
 
 -- Against the printer.
 
-char_hits : (n m : ℕ) (bell : Bool) (k : Known) (case : Case) (s : Spot) → FitsCase k case → FitsSpot s m → lands_at n (lands_char bell k s) ≤ hits n (landing (strikes bell case) m)
+char_hits : (n m : ℕ) (bell : Bool) (k : Option Case) (case : Case) (s : Spot) → FitsCase k case → FitsSpot s m → lands_at n (lands_char bell k s) ≤ hits n (landing (strikes bell case) m)
 char_hits n m false k case (At j) f e = rw e (omega arith)
 char_hits n m false k case (From j) f e = omega arith
-char_hits n m true known.Unknown case (At j) f e = omega arith
-char_hits n m true known.Unknown case (From j) f e = omega arith
-char_hits n m true (known.Is Letters) case (At j) f e = rw (e, ← f) (omega arith)
-char_hits n m true (known.Is Letters) case (From j) f e = omega arith
-char_hits n m true (known.Is Figures) case s f e = omega arith
+char_hits n m true None case (At j) f e = omega arith
+char_hits n m true None case (From j) f e = omega arith
+char_hits n m true (Some Letters) case (At j) f e = rw (e, ← f) (omega arith)
+char_hits n m true (Some Letters) case (From j) f e = omega arith
+char_hits n m true (Some Figures) case s f e = omega arith
 
 kind_hits : {w : Watch} {p : Printer} {s : Case} (n : ℕ) (k : Kind) → Fits w p s → lands_at n (lands w k) ≤ hits n (landing (moves p.case k) p.count)
 kind_hits n Still f = omega arith

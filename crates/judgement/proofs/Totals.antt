@@ -10,9 +10,9 @@ use native.Mathlib.Nat.{zero-mul, one-mul, mul-zero, add-mul}
 use lib.Dec.{eqb}
 use lib.ListN.{length, get_or, get_or-replicate}
 use borrow.Author.Tests.{eqb-true, eqb-false, eq-eqb}
+use Rattle.std.specs.Prelude.{Option, Some, None}
 use Rattle.code.specs.Kinds.{kind_of}
-use Rattle.judgement.specs.Names.{Case, Letters, Figures, Kind, Still, Space, Return, Shift, Char, Printer, Known, Spot, At, From, Landing, Nowhere, There, Somewhere, Verdict, Watch, Line, Tally, Page}
-use Rattle.judgement.specs.Names.known
+use Rattle.judgement.specs.Names.{Case, Letters, Figures, Kind, Still, Space, Return, Shift, Char, Printer, Spot, At, From, Verdict, Watch, Line, Tally, Page}
 use Rattle.judgement.specs.Names.verdict
 use Rattle.judgement.specs.Watch.{shown_by, watch}
 use Rattle.judgement.specs.Verdict.{number_of, own_char, own, lands_char, lands, strike_of}
@@ -30,39 +30,39 @@ on_line s c = record { watch = watch s.watch c; line = strike s.line (strike_of 
 
 -- A weight for each code that is struck at a place, by the place.
 
-abbrev weigh : (ℕ → ℕ) → Landing → ℕ
-weigh g Nowhere = 0
-weigh g (There m) = g m
-weigh g (Somewhere m) = 0
+abbrev weigh : (ℕ → ℕ) → Option Spot → ℕ
+weigh g None = 0
+weigh g (Some (At m)) = g m
+weigh g (Some (From m)) = 0
 
 abbrev reached : (ℕ → ℕ) → Watch → List ℕ → ℕ
 reached g w [] = 0
 reached g w (c ∷ cs) = weigh g (lands w (kind_of c)) + reached g (watch w c) cs
 
-abbrev Short : Landing → Type 0
-Short Nowhere = Unit
-Short (There m) = m < 256
-Short (Somewhere m) = Unit
+abbrev Short : Option Spot → Type 0
+Short None = Unit
+Short (Some (At m)) = m < 256
+Short (Some (From m)) = Unit
 
-weigh_sum : (g : ℕ → ℕ) (x : Landing) → Short x → weigh g x ≡ sum 256 (λ n. lands_at n x * g n)
-weigh_sum g Nowhere h = sym (sum_none 256 (λ n. 0 * g n) (λ n l. zero-mul (g n)))
-weigh_sum g (There m) h = sym (sum_same 256 (λ n. one (eqb m n) * g n) (λ n. cond (eqb m n) (g n) 0) (λ n l. picked (eqb m n) (g n)) ∙ sum_pick 256 g m h)
+weigh_sum : (g : ℕ → ℕ) (x : Option Spot) → Short x → weigh g x ≡ sum 256 (λ n. lands_at n x * g n)
+weigh_sum g None h = sym (sum_none 256 (λ n. 0 * g n) (λ n l. zero-mul (g n)))
+weigh_sum g (Some (At m)) h = sym (sum_same 256 (λ n. one (eqb m n) * g n) (λ n. cond (eqb m n) (g n) 0) (λ n l. picked (eqb m n) (g n)) ∙ sum_pick 256 g m h)
   where
     picked : (b : Bool) (y : ℕ) → one b * y ≡ cond b y 0
     picked true y = one-mul y
     picked false y = zero-mul y
-weigh_sum g (Somewhere m) h = sym (sum_none 256 (λ n. 0 * g n) (λ n l. zero-mul (g n)))
+weigh_sum g (Some (From m)) h = sym (sum_none 256 (λ n. 0 * g n) (λ n l. zero-mul (g n)))
 
 -- every place that is struck is within the stop
 
-short_char : (bell : Bool) (k : Known) (s : Spot) (stop m : ℕ) → FitsSpot s m → m ≤ stop → stop < 256 → Short (lands_char bell k s)
+short_char : (bell : Bool) (k : Option Case) (s : Spot) (stop m : ℕ) → FitsSpot s m → m ≤ stop → stop < 256 → Short (lands_char bell k s)
 short_char false k (At n) stop m e h l = omega arith
 short_char false k (From n) stop m e h l = tt
-short_char true known.Unknown (At n) stop m e h l = tt
-short_char true known.Unknown (From n) stop m e h l = tt
-short_char true (known.Is Letters) (At n) stop m e h l = omega arith
-short_char true (known.Is Letters) (From n) stop m e h l = tt
-short_char true (known.Is Figures) s stop m e h l = tt
+short_char true None (At n) stop m e h l = tt
+short_char true None (From n) stop m e h l = tt
+short_char true (Some Letters) (At n) stop m e h l = omega arith
+short_char true (Some Letters) (From n) stop m e h l = tt
+short_char true (Some Figures) s stop m e h l = tt
 
 short : {w : Watch} {p : Printer} {s : Case} (k : Kind) → Fits w p s → w.stop < 256 → Short (lands w k)
 short Still f l = tt
@@ -121,19 +121,19 @@ module _ {w : Watch} {p : Printer} {s : Case} (l : Line) (cs : List ℕ) (f : Fi
 
 -- A code's judgement.
 
-nowhere_char : (bell fell : Bool) (meant : Known) (s : Spot) → lands_char bell (shown_by fell meant) s ≡ Nowhere → own_char bell meant fell ≡ verdict.Nothing
+nowhere_char : (bell fell : Bool) (meant : Option Case) (s : Spot) → lands_char bell (shown_by fell meant) s ≡ None → own_char bell meant fell ≡ verdict.Nothing
 nowhere_char false fell meant (At n) e = let z : true ≡ false = cc in absurd (true≢false z)
 nowhere_char false fell meant (From n) e = let z : true ≡ false = cc in absurd (true≢false z)
 nowhere_char true true meant (At n) e = let z : true ≡ false = cc in absurd (true≢false z)
 nowhere_char true true meant (From n) e = let z : true ≡ false = cc in absurd (true≢false z)
-nowhere_char true false known.Unknown (At n) e = let z : true ≡ false = cc in absurd (true≢false z)
-nowhere_char true false known.Unknown (From n) e = let z : true ≡ false = cc in absurd (true≢false z)
-nowhere_char true false (known.Is Letters) (At n) e = let z : true ≡ false = cc in absurd (true≢false z)
-nowhere_char true false (known.Is Letters) (From n) e = let z : true ≡ false = cc in absurd (true≢false z)
-nowhere_char true false (known.Is Figures) s e = refl
+nowhere_char true false None (At n) e = let z : true ≡ false = cc in absurd (true≢false z)
+nowhere_char true false None (From n) e = let z : true ≡ false = cc in absurd (true≢false z)
+nowhere_char true false (Some Letters) (At n) e = let z : true ≡ false = cc in absurd (true≢false z)
+nowhere_char true false (Some Letters) (From n) e = let z : true ≡ false = cc in absurd (true≢false z)
+nowhere_char true false (Some Figures) s e = refl
 
 -- what is struck nowhere has nothing to print
-pub nowhere : (w : Watch) (k : Kind) → lands w k ≡ Nowhere → own w k ≡ verdict.Nothing
+pub nowhere : (w : Watch) (k : Kind) → lands w k ≡ None → own w k ≡ verdict.Nothing
 nowhere w Still e = refl
 nowhere w Space e = refl
 nowhere w Return e = refl
@@ -165,10 +165,10 @@ as_stands v x strays z (inl e) = rw e (go v (eqb strays 0) z)
     go verdict.Unknown false z = refl
 
 -- strays, by whether they count
-abbrev drift : Bool → Landing → ℕ
-drift b Nowhere = 0
-drift b (There m) = 0
-drift b (Somewhere m) = one b
+abbrev drift : Bool → Option Spot → ℕ
+drift b None = 0
+drift b (Some (At m)) = 0
+drift b (Some (From m)) = one b
 
 abbrev drifting : Bool → Watch → List ℕ → ℕ
 drifting b w [] = 0
@@ -178,10 +178,10 @@ drifting b w (c ∷ cs) = drift b (lands w (kind_of c)) + drifting b (watch w c)
 abbrev met : ℕ → Bool
 met x = single x || eqb x 3
 
-abbrev Met : (ℕ → ℕ) → Landing → Type 0
-Met F Nowhere = Unit
-Met F (There m) = met (F m) ≡ true
-Met F (Somewhere m) = Unit
+abbrev Met : (ℕ → ℕ) → Option Spot → Type 0
+Met F None = Unit
+Met F (Some (At m)) = met (F m) ≡ true
+Met F (Some (From m)) = Unit
 
 abbrev AllMet : (ℕ → ℕ) → Watch → List ℕ → Type 0
 AllMet F w [] = Unit
@@ -195,7 +195,7 @@ met_of x v z (inr e) = rw e
 abbrev Leave : Line → (ℕ → ℕ) → Watch → List ℕ → Type 0
 Leave l was w cs = (n : ℕ) → n < 256 → get_or l.stand n 0 ≡ stands_at n w (was n) cs
 
-there : (l : Line) (was : ℕ → ℕ) (w : Watch) (c : ℕ) (cs : List ℕ) (m : ℕ) → Leave l was w (c ∷ cs) → m < 256 → lands w (kind_of c) ≡ There m → (get_or l.stand m 0 ≡ number_of (own w (kind_of c))) ⊎ (get_or l.stand m 0 ≡ 3)
+there : (l : Line) (was : ℕ → ℕ) (w : Watch) (c : ℕ) (cs : List ℕ) (m : ℕ) → Leave l was w (c ∷ cs) → m < 256 → lands w (kind_of c) ≡ Some (At m) → (get_or l.stand m 0 ≡ number_of (own w (kind_of c))) ⊎ (get_or l.stand m 0 ≡ 3)
 there l was w c cs m h b e =
     let q : get_or l.stand m 0 ≡ stands_at m (watch w c) (stand_after (was m) (own w (kind_of c))) cs = h m b ∙ rw (e, eq-eqb m m refl) in
     rw q (outcome m (was m) (number_of (own w (kind_of c))) (watch w c) cs (single_lands w (kind_of c) m e))
@@ -204,22 +204,22 @@ all_met : {w : Watch} {p : Printer} {s : Case} (l : Line) (was : ℕ → ℕ) (c
 all_met l was [] f b h = tt
 all_met {w} {p} {s} l was (c ∷ cs) f b h = (go (lands w (kind_of c)) refl, all_met {w = watch w c} l (λ n. stand_at n (lands w (kind_of c)) (was n) (own w (kind_of c))) cs (fits c f) b h)
   where
-    go : (x : Landing) → lands w (kind_of c) ≡ x → Met (λ n. get_or l.stand n 0) x
-    go Nowhere e = tt
-    go (There m) e = met_of _ (number_of (own w (kind_of c))) (single_lands w (kind_of c) m e) (there l was w c cs m h (rw e at (short (kind_of c) f b)) e)
-    go (Somewhere m) e = tt
+    go : (x : Option Spot) → lands w (kind_of c) ≡ x → Met (λ n. get_or l.stand n 0) x
+    go None e = tt
+    go (Some (At m)) e = met_of _ (number_of (own w (kind_of c))) (single_lands w (kind_of c) m e) (there l was w c cs m h (rw e at (short (kind_of c) f b)) e)
+    go (Some (From m)) e = tt
 
 -- how many codes are judged so, by how their places stand
 judged_by : {w : Watch} {p : Printer} {s : Case} (v : ℕ) (l : Line) (was : ℕ → ℕ) (cs : List ℕ) → eqb 0 v ≡ false → Fits w p s → w.stop < 256 → Leave l was w cs → judged v w l cs ≡ reached (λ n. one (eqb (standing l.strays (get_or l.stand n 0)) v)) w cs + drifting (eqb 4 v) w cs
 judged_by v l was [] z f b h = refl
 judged_by {w} {p} {s} v l was (c ∷ cs) z f b h = omega (arith, go (lands w (kind_of c)) refl, judged_by {w = watch w c} v l (λ n. stand_at n (lands w (kind_of c)) (was n) (own w (kind_of c))) cs z (fits c f) b h)
   where
-    go : (x : Landing) → lands w (kind_of c) ≡ x → one (eqb (number_of (final l x (own w (kind_of c)))) v) ≡ weigh (λ n. one (eqb (standing l.strays (get_or l.stand n 0)) v)) x + drift (eqb 4 v) x
-    go Nowhere e = rw (nowhere w (kind_of c) e, z)
-    go (There m) e =
+    go : (x : Option Spot) → lands w (kind_of c) ≡ x → one (eqb (number_of (final l x (own w (kind_of c)))) v) ≡ weigh (λ n. one (eqb (standing l.strays (get_or l.stand n 0)) v)) x + drift (eqb 4 v) x
+    go None e = rw (nowhere w (kind_of c) e, z)
+    go (Some (At m)) e =
         let q = as_stands (own w (kind_of c)) (get_or l.stand m 0) l.strays (single_lands w (kind_of c) m e) (there l was w c cs m h (rw e at (short (kind_of c) f b)) e) in
         rw q (omega arith)
-    go (Somewhere m) e = omega arith
+    go (Some (From m)) e = omega arith
 
 -- sums over the codes
 
@@ -227,37 +227,37 @@ reached_add : (g h : ℕ → ℕ) (w : Watch) (cs : List ℕ) → reached (λ n.
 reached_add g h w [] = refl
 reached_add g h w (c ∷ cs) = omega (arith, both (lands w (kind_of c)), reached_add g h (watch w c) cs)
   where
-    both : (x : Landing) → weigh (λ n. g n + h n) x ≡ weigh g x + weigh h x
-    both Nowhere = refl
-    both (There m) = refl
-    both (Somewhere m) = refl
+    both : (x : Option Spot) → weigh (λ n. g n + h n) x ≡ weigh g x + weigh h x
+    both None = refl
+    both (Some (At m)) = refl
+    both (Some (From m)) = refl
 
 reached_same : (F g h : ℕ → ℕ) (w : Watch) (cs : List ℕ) → AllMet F w cs → ((m : ℕ) → met (F m) ≡ true → g m ≡ h m) → reached g w cs ≡ reached h w cs
 reached_same F g h w [] a e = refl
 reached_same F g h w (c ∷ cs) a e = omega (arith, alike (lands w (kind_of c)) a.0, reached_same F g h (watch w c) cs a.1 e)
   where
-    alike : (x : Landing) → Met F x → weigh g x ≡ weigh h x
-    alike Nowhere q = refl
-    alike (There m) q = e m q
-    alike (Somewhere m) q = refl
+    alike : (x : Option Spot) → Met F x → weigh g x ≡ weigh h x
+    alike None q = refl
+    alike (Some (At m)) q = e m q
+    alike (Some (From m)) q = refl
 
 reached_none : (w : Watch) (cs : List ℕ) → reached (λ n. 0) w cs ≡ 0
 reached_none w [] = refl
 reached_none w (c ∷ cs) = omega (arith, zero_there (lands w (kind_of c)), reached_none (watch w c) cs)
   where
-    zero_there : (x : Landing) → weigh (λ n. 0) x ≡ 0
-    zero_there Nowhere = refl
-    zero_there (There m) = refl
-    zero_there (Somewhere m) = refl
+    zero_there : (x : Option Spot) → weigh (λ n. 0) x ≡ 0
+    zero_there None = refl
+    zero_there (Some (At m)) = refl
+    zero_there (Some (From m)) = refl
 
 drifting_none : (w : Watch) (cs : List ℕ) → drifting false w cs ≡ 0
 drifting_none w [] = refl
 drifting_none w (c ∷ cs) = omega (arith, still (lands w (kind_of c)), drifting_none (watch w c) cs)
   where
-    still : (x : Landing) → drift false x ≡ 0
-    still Nowhere = refl
-    still (There m) = refl
-    still (Somewhere m) = refl
+    still : (x : Option Spot) → drift false x ≡ 0
+    still None = refl
+    still (Some (At m)) = refl
+    still (Some (From m)) = refl
 
 -- What landed and what strayed.
 
@@ -269,20 +269,20 @@ parts : (w : Watch) (cs : List ℕ) → reached (λ n. 1) w cs + drifting true w
 parts w [] = omega arith
 parts w (c ∷ cs) = omega (arith, part (lands w (kind_of c)), parts (watch w c) cs)
   where
-    part : (x : Landing) → weigh (λ n. 1) x + drift true x ≤ 1
-    part Nowhere = omega arith
-    part (There m) = omega arith
-    part (Somewhere m) = omega arith
+    part : (x : Option Spot) → weigh (λ n. 1) x + drift true x ≤ 1
+    part None = omega arith
+    part (Some (At m)) = omega arith
+    part (Some (From m)) = omega arith
 
-strike_landed : (x : Landing) (l : Line) (ink : ℕ) (v : Verdict) → l.landed < most → (strike_at x l ink v).landed ≡ l.landed + weigh (λ n. 1) x
-strike_landed Nowhere l ink v h = omega arith
-strike_landed (There m) l ink v h = omega arith
-strike_landed (Somewhere m) l ink v h = omega arith
+strike_landed : (x : Option Spot) (l : Line) (ink : ℕ) (v : Verdict) → l.landed < most → (strike_at x l ink v).landed ≡ l.landed + weigh (λ n. 1) x
+strike_landed None l ink v h = omega arith
+strike_landed (Some (At m)) l ink v h = omega arith
+strike_landed (Some (From m)) l ink v h = omega arith
 
-strike_strays : (x : Landing) (l : Line) (ink : ℕ) (v : Verdict) → l.strays < most → (strike_at x l ink v).strays ≡ l.strays + drift true x
-strike_strays Nowhere l ink v h = omega arith
-strike_strays (There m) l ink v h = omega arith
-strike_strays (Somewhere m) l ink v h = omega arith
+strike_strays : (x : Option Spot) (l : Line) (ink : ℕ) (v : Verdict) → l.strays < most → (strike_at x l ink v).strays ≡ l.strays + drift true x
+strike_strays None l ink v h = omega arith
+strike_strays (Some (At m)) l ink v h = omega arith
+strike_strays (Some (From m)) l ink v h = omega arith
 
 landed_right : (w : Watch) (l : Line) (cs : List ℕ) → l.landed + length cs ≤ most → (line_of w l cs).landed ≡ l.landed + reached (λ n. 1) w cs
 landed_right w l [] h = omega arith

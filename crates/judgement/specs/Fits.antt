@@ -1,22 +1,20 @@
 -- What is known fits a printer with a stop and a sender, if it is true of them wherever it says anything.
-use Rattle.std.specs.Prelude.{ℕ, ◌≤◌, ◌≡◌}
-use Rattle.judgement.specs.Names.{Case, Letters, Figures, Kind, Still, Space, Return, Shift, Char, Printer, Known, Spot, At, From, Sign, Verdict, Watch}
-use Rattle.judgement.specs.Names.known
-use Rattle.judgement.specs.Names.sign
+use Rattle.std.specs.Prelude.{Option, Some, None, ℕ, ◌≤◌, ◌≡◌}
+use Rattle.judgement.specs.Names.{Case, Letters, Figures, Kind, Still, Space, Return, Shift, Char, Printer, Spot, At, From, Verdict, Watch}
 use Rattle.judgement.specs.Names.verdict
 use Rattle.judgement.specs.Watch.{shown_by}
 
-abbrev pub FitsCase : Known → Case → Type 0
-FitsCase known.Unknown case = Unit
-FitsCase (known.Is a) case = a ≡ case
+abbrev pub FitsCase : Option Case → Case → Type 0
+FitsCase None case = Unit
+FitsCase (Some a) case = a ≡ case
 
 abbrev pub FitsSpot : Spot → ℕ → Type 0
 FitsSpot (At n) count = n ≡ count
 FitsSpot (From n) count = n ≤ count
 
-abbrev pub FitsSign : Sign → ℕ → Type 0
-FitsSign sign.Unknown x = Unit
-FitsSign (sign.Is y) x = y ≡ x
+abbrev pub FitsSign : Option ℕ → ℕ → Type 0
+FitsSign None x = Unit
+FitsSign (Some y) x = y ≡ x
 
 -- the sender's case, by the shifts alone
 abbrev pub send_case : Case → Kind → Case

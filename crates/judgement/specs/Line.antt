@@ -1,8 +1,7 @@
 -- A line of the paper, from one line feed to the next: what stands at each place, and what cannot be placed. A place struck
 -- once holds that character; struck again it is struck over.
-use Rattle.std.specs.Prelude.{ℕ, min, ◌+◌, ◌-◌, Bool, true, false, cond, List, [], ◌∷◌, get_or, set, replicate, eqb}
-use Rattle.judgement.specs.Names.{Landing, Nowhere, There, Somewhere, Sign, Verdict, Strike, Tally, Line}
-use Rattle.judgement.specs.Names.sign
+use Rattle.std.specs.Prelude.{Option, Some, None, ℕ, min, ◌+◌, ◌-◌, Bool, true, false, cond, List, [], ◌∷◌, get_or, set, replicate, eqb}
+use Rattle.judgement.specs.Names.{Verdict, Strike, Tally, Line, Spot, At, From}
 use Rattle.judgement.specs.Names.verdict
 use Rattle.judgement.specs.Verdict.{number_of}
 
@@ -14,9 +13,9 @@ abbrev pub bare : Line
 bare = record { ink = replicate 256 0; stand = replicate 256 0; drift = replicate 256 0; landed = 0; strays = 0 }
 
 -- how a sign is shown: `~` (126) where it cannot be known
-abbrev pub ink_of : Sign → ℕ
-ink_of sign.Unknown = 126
-ink_of (sign.Is x) = x
+abbrev pub ink_of : Option ℕ → ℕ
+ink_of None = 126
+ink_of (Some x) = x
 
 -- the first strike stands as it is; with another it is struck over
 abbrev pub stand_after : ℕ → Verdict → ℕ
@@ -27,10 +26,10 @@ abbrev pub seen : ℕ → ℕ → ℕ → ℕ
 seen was ink more = cond (eqb was 0) ink more
 
 -- struck over is shown as `*` (42), and two that may be at one place as `~`
-abbrev pub strike_at : Landing → Line → ℕ → Verdict → Line
-strike_at Nowhere l ink v = l
-strike_at (There n) l ink v = record { ink = set l.ink n (seen (get_or l.stand n 0) ink 42); stand = set l.stand n (stand_after (get_or l.stand n 0) v); drift = l.drift; landed = plus l.landed 1; strays = l.strays }
-strike_at (Somewhere n) l ink v = record { ink = l.ink; stand = l.stand; drift = set l.drift n (seen (get_or l.drift n 0) ink 126); landed = l.landed; strays = plus l.strays 1 }
+abbrev pub strike_at : Option Spot → Line → ℕ → Verdict → Line
+strike_at None l ink v = l
+strike_at (Some (At n)) l ink v = record { ink = set l.ink n (seen (get_or l.stand n 0) ink 42); stand = set l.stand n (stand_after (get_or l.stand n 0) v); drift = l.drift; landed = plus l.landed 1; strays = l.strays }
+strike_at (Some (From n)) l ink v = record { ink = l.ink; stand = l.stand; drift = set l.drift n (seen (get_or l.drift n 0) ink 126); landed = l.landed; strays = plus l.strays 1 }
 
 abbrev pub strike : Line → Strike → Line
 strike l s = strike_at s.lands l (ink_of s.sign) s.own
@@ -41,10 +40,10 @@ strike l s = strike_at s.lands l (ink_of s.sign) s.own
 abbrev pub final_at : ℕ → ℕ → Verdict → Verdict
 final_at stand strays v = cond (eqb stand 3) verdict.Over (cond (eqb strays 0) v verdict.Unknown)
 
-abbrev pub final : Line → Landing → Verdict → Verdict
-final l Nowhere v = v
-final l (There n) v = final_at (get_or l.stand n 0) l.strays v
-final l (Somewhere n) v = verdict.Unknown
+abbrev pub final : Line → Option Spot → Verdict → Verdict
+final l None v = v
+final l (Some (At n)) v = final_at (get_or l.stand n 0) l.strays v
+final l (Some (From n)) v = verdict.Unknown
 
 -- how a place stands in the end, by number; 0 where nothing was struck
 abbrev pub standing : ℕ → ℕ → ℕ

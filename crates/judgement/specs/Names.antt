@@ -4,26 +4,15 @@ pub use Rattle.code.specs.declared.Case.TheVariants.{Letters, Figures}
 pub use Rattle.code.specs.declared.Kind.{Kind}
 pub use Rattle.code.specs.declared.Kind.TheVariants.{Still, Space, Return, Shift, Char}
 pub use Rattle.printer.specs.declared.Printer.{Printer}
-pub use Rattle.printer.specs.declared.Place.{Place}
-pub use Rattle.printer.specs.declared.Place.TheVariants as place
 pub use Rattle.printer.specs.declared.Mark.{Mark}
-pub use Rattle.judgement.specs.declared.Known.{Known}
-pub use Rattle.judgement.specs.declared.Known.TheVariants as known
 pub use Rattle.judgement.specs.declared.Spot.{Spot}
 pub use Rattle.judgement.specs.declared.Spot.TheVariants.{At, From}
-pub use Rattle.judgement.specs.declared.Landing.{Landing}
-pub use Rattle.judgement.specs.declared.Landing.TheVariants.{Nowhere, There, Somewhere}
-pub use Rattle.judgement.specs.declared.Sign.{Sign}
-pub use Rattle.judgement.specs.declared.Sign.TheVariants as sign
 pub use Rattle.judgement.specs.declared.Verdict.{Verdict}
 pub use Rattle.judgement.specs.declared.Verdict.TheVariants as verdict
-pub use Rattle.judgement.specs.declared.Answer.{Answer}
-pub use Rattle.judgement.specs.declared.Answer.TheVariants.{Taken, NoCode}
+pub use Rattle.judgement.specs.declared.NoCode.{NoCode}
 pub use Rattle.judgement.specs.declared.Watch.{Watch}
 pub use Rattle.judgement.specs.declared.Strike.{Strike}
 pub use Rattle.judgement.specs.declared.Judgement.{Judgement}
 pub use Rattle.judgement.specs.declared.Tally.{Tally}
 pub use Rattle.judgement.specs.declared.Line.{Line}
 pub use Rattle.judgement.specs.declared.Page.{Page}
-pub use Rattle.judgement.specs.declared.Heard.{Heard}
-pub use Rattle.judgement.specs.declared.Run.{Run}

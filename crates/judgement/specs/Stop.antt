@@ -1,9 +1,8 @@
 -- The printer with a right stop, beside the one without: at the stop the carriage stays, and what is struck lands there.
-use Rattle.std.specs.Prelude.{ℕ, min, ◌+◌, ◌≤◌, ◌≡◌, Bool, true, false, cond, List, [], ◌∷◌, ◌++◌, eqb}
+use Rattle.std.specs.Prelude.{Option, Some, None, ℕ, min, ◌+◌, ◌≤◌, ◌≡◌, Bool, true, false, cond, List, [], ◌∷◌, ◌++◌, eqb}
 use Rattle.code.specs.Kinds.{kind_of}
 use Rattle.printer.specs.Printer.{hear, prints}
-use Rattle.judgement.specs.Names.{Kind, Still, Space, Return, Shift, Char, Printer, Place, Mark}
-use Rattle.judgement.specs.Names.place
+use Rattle.judgement.specs.Names.{Kind, Still, Space, Return, Shift, Char, Printer, Mark}
 
 -- no further than the stop
 abbrev pub clip : ℕ → Printer → Printer
@@ -25,9 +24,9 @@ prints_all_stop stop p (c ∷ cs) = prints p c ++ prints_all_stop stop (hear_sto
 -- What the laws speak of.
 
 -- a mark, where the stop lets it land
-abbrev pub clip_place : ℕ → Place → Place
-clip_place stop place.Nowhere = place.Nowhere
-clip_place stop (place.At n) = place.At (min stop n)
+abbrev pub clip_place : ℕ → Option ℕ → Option ℕ
+clip_place stop None = None
+clip_place stop (Some n) = Some (min stop n)
 
 abbrev pub clip_mark : ℕ → Mark → Mark
 clip_mark stop m = record { character = m.character; lands = clip_place stop m.lands }
@@ -42,9 +41,9 @@ Within stop p [] = p.count ≤ stop
 Within stop p (c ∷ cs) = (p.count ≤ stop) × Within stop (hear p c) cs
 
 -- how often a place is struck; a space lands too
-abbrev pub hits : ℕ → Place → ℕ
-hits n place.Nowhere = 0
-hits n (place.At m) = cond (eqb m n) 1 0
+abbrev pub hits : ℕ → Option ℕ → ℕ
+hits n None = 0
+hits n (Some m) = cond (eqb m n) 1 0
 
 abbrev pub times : ℕ → List Mark → ℕ
 times n [] = 0

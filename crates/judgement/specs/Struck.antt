@@ -1,7 +1,7 @@
 -- How often a place is struck, by the codes of one line of the paper, and how it stands by that.
-use Rattle.std.specs.Prelude.{ℕ, ◌+◌, ◌≡◌, false, cond, List, [], ◌∷◌, eqb}
+use Rattle.std.specs.Prelude.{Option, Some, None, ℕ, ◌+◌, ◌≡◌, false, cond, List, [], ◌∷◌, eqb}
 use Rattle.code.specs.Kinds.{kind_of}
-use Rattle.judgement.specs.Names.{Landing, Nowhere, There, Somewhere, Verdict, Watch, Line, Page}
+use Rattle.judgement.specs.Names.{Verdict, Watch, Line, Page, Spot, At, From}
 use Rattle.judgement.specs.Watch.{watch}
 use Rattle.judgement.specs.Verdict.{number_of, lands, own, strike_of}
 use Rattle.judgement.specs.Line.{stand_after, strike}
@@ -12,10 +12,10 @@ abbrev pub line_of : Watch → Line → List ℕ → Line
 line_of w l [] = l
 line_of w l (c ∷ cs) = line_of (watch w c) (strike l (strike_of w c)) cs
 
-abbrev pub lands_at : ℕ → Landing → ℕ
-lands_at n Nowhere = 0
-lands_at n (There m) = cond (eqb m n) 1 0
-lands_at n (Somewhere m) = 0
+abbrev pub lands_at : ℕ → Option Spot → ℕ
+lands_at n None = 0
+lands_at n (Some (At m)) = cond (eqb m n) 1 0
+lands_at n (Some (From m)) = 0
 
 -- how many of the codes are struck at a place
 abbrev pub struck_at : ℕ → Watch → List ℕ → ℕ
@@ -23,10 +23,10 @@ struck_at n w [] = 0
 struck_at n w (c ∷ cs) = lands_at n (lands w (kind_of c)) + struck_at n (watch w c) cs
 
 -- how a place stands after a code, and after many
-abbrev pub stand_at : ℕ → Landing → ℕ → Verdict → ℕ
-stand_at n Nowhere was v = was
-stand_at n (There m) was v = cond (eqb m n) (stand_after was v) was
-stand_at n (Somewhere m) was v = was
+abbrev pub stand_at : ℕ → Option Spot → ℕ → Verdict → ℕ
+stand_at n None was v = was
+stand_at n (Some (At m)) was v = cond (eqb m n) (stand_after was v) was
+stand_at n (Some (From m)) was v = was
 
 abbrev pub stands_at : ℕ → Watch → ℕ → List ℕ → ℕ
 stands_at n w was [] = was

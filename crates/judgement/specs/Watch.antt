@@ -1,21 +1,20 @@
 -- What can be known of the sender and of the printer while a record is read. The sender's case follows the shifts alone; the
 -- printer is in it unless it fell back to letters since the last of them.
-use Rattle.std.specs.Prelude.{ℕ, min, ◌+◌, Bool, true, false, cond, ◌||◌, ltb}
+use Rattle.std.specs.Prelude.{Option, Some, None, ℕ, min, ◌+◌, Bool, true, false, cond, ◌||◌, ltb}
 use Rattle.code.specs.Kinds.{kind_of}
-use Rattle.judgement.specs.Names.{Letters, Figures, Kind, Still, Space, Return, Shift, Char, Known, Spot, At, From, Watch}
-use Rattle.judgement.specs.Names.known
+use Rattle.judgement.specs.Names.{Case, Letters, Figures, Kind, Still, Space, Return, Shift, Char, Spot, At, From, Watch}
 
 -- the printer's case
-abbrev pub shown_by : Bool → Known → Known
-shown_by true meant = known.Is Letters
+abbrev pub shown_by : Bool → Option Case → Option Case
+shown_by true meant = Some Letters
 shown_by false meant = meant
 
 -- a shift sets the sender's case, and nothing else does
-abbrev pub meant_after : Known → Kind → Known
+abbrev pub meant_after : Option Case → Kind → Option Case
 meant_after meant Still = meant
 meant_after meant Space = meant
 meant_after meant Return = meant
-meant_after meant (Shift to) = known.Is to
+meant_after meant (Shift to) = Some to
 meant_after meant (Char bell) = meant
 
 -- a printer that unshifts falls back to letters on a space or on a return; a shift ends that
@@ -42,11 +41,11 @@ blurred stop (At n) = within stop (From n)
 blurred stop (From n) = within stop (From n)
 
 -- BELL does not move the carriage; while the printer's case is unknown, what may be BELL leaves the place unknown
-abbrev pub spot_char : Bool → Known → ℕ → Spot → Spot
+abbrev pub spot_char : Bool → Option Case → ℕ → Spot → Spot
 spot_char false k stop s = moved stop s
-spot_char true known.Unknown stop s = blurred stop s
-spot_char true (known.Is Letters) stop s = moved stop s
-spot_char true (known.Is Figures) stop s = s
+spot_char true None stop s = blurred stop s
+spot_char true (Some Letters) stop s = moved stop s
+spot_char true (Some Figures) stop s = s
 
 abbrev pub spot_after : Watch → Kind → Spot
 spot_after w Still = w.spot

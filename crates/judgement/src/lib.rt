@@ -9,33 +9,11 @@ pub mod pages;
 mod strikes;
 mod watches;
 
-// What is known of a case.
-#[derive(Clone, Copy)]
-pub enum Known {
-    Unknown,
-    Is(Case),
-}
-
 // What is known of the carriage's place: it is there, or it is there or further on.
 #[derive(Clone, Copy)]
 pub enum Spot {
     At(u8),
     From(u8),
-}
-
-// Where a code is struck. Somewhere: at that place or further on, or perhaps not at all.
-#[derive(Clone, Copy)]
-pub enum Landing {
-    Nowhere,
-    There(u8),
-    Somewhere(u8),
-}
-
-// A character, where it can be known.
-#[derive(Clone, Copy)]
-pub enum Sign {
-    Unknown,
-    Is(u8),
 }
 
 // Whether what a code was to print stands on the paper.
@@ -48,18 +26,28 @@ pub enum Verdict {
     Unknown,
 }
 
-// Whether a code was taken. A code over 31 is none.
+// The byte after so many codes is over 31, and no code.
 #[derive(Clone, Copy)]
-pub enum Answer {
-    Taken,
-    NoCode,
+pub struct NoCode {
+    pub taken: usize,
+}
+
+// A printer, and what is known of it at the start of a record: its case and its carriage's place; its stop, and on what it
+// unshifts by itself.
+#[derive(Clone, Copy)]
+pub struct Start {
+    pub case: Option<Case>,
+    pub spot: Spot,
+    pub stop: u8,
+    pub onspace: bool,
+    pub onreturn: bool,
 }
 
 // What is known of the sender and of the printer: the case of the shifts alone, whether the printer fell back to letters since
 // the last of them, the carriage's place; and the printer's stop and on what it unshifts by itself.
 #[derive(Clone, Copy)]
 pub struct Watch {
-    pub meant: Known,
+    pub meant: Option<Case>,
     pub fell: bool,
     pub spot: Spot,
     pub stop: u8,
@@ -67,24 +55,25 @@ pub struct Watch {
     pub onreturn: bool,
 }
 
-// A code by itself: where it is struck, what is struck, and whether that was meant.
+// A code by itself: where it is struck, what is struck, and whether that was meant. A place is where it lands for sure; from a
+// place on, it lands there or further on, or perhaps not at all.
 #[derive(Clone, Copy)]
 pub struct Strike {
-    pub lands: Landing,
-    pub sign: Sign,
+    pub lands: Option<Spot>,
+    pub sign: Option<u8>,
     pub own: Verdict,
 }
 
-// The judgement of a code: what the sender meant, what the printer struck, and whether it stands.
+// The judgement of a code: what the sender meant and what the printer struck, where they can be known, and whether it stands.
 #[derive(Clone, Copy)]
 pub struct Judgement {
-    pub meant: Sign,
-    pub struck: Sign,
+    pub meant: Option<u8>,
+    pub struck: Option<u8>,
     pub verdict: Verdict,
 }
 
 // How many codes were judged so.
-#[derive(Clone, Copy)]
+#[derive(Clone, Copy, Default)]
 pub struct Tally {
     pub kept: u64,
     pub turned: u64,
@@ -109,19 +98,4 @@ pub struct Page {
     pub watch: Watch,
     pub line: Line,
     pub total: Tally,
-}
-
-// The page after a code.
-#[derive(Clone, Copy)]
-pub struct Heard {
-    pub answer: Answer,
-    pub page: Page,
-}
-
-// The page after the codes that were taken.
-#[derive(Clone, Copy)]
-pub struct Run {
-    pub answer: Answer,
-    pub taken: usize,
-    pub page: Page,
 }

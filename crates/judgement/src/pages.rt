@@ -1,39 +1,27 @@
 // The page: a record's codes, taken one at a time and many at a time, and the judgement of each.
-ghost use Rattle.std.specs.Prelude.{◌≡◌};
+ghost use Rattle.std.specs.Prelude.{◌≡◌, MatchResult, length};
 ghost use Rattle.judgement.specs.Verdict.{answer_of};
-ghost use Rattle.judgement.specs.Page.{start, feeds, page_after, step, run, totals, judgement};
+ghost use Rattle.judgement.specs.Page.{start, feeds, page_after, step, run, totals};
 
-use crate::{
-    Answer, Heard, Judgement, Known, Line, Page, Run, Spot, Tally, Watch, lines, strikes, watches,
-};
+use crate::{Line, NoCode, Page, Start, Tally, Watch};
 use code::Case;
 
-// The number of an answer.
-pub fn number_of(a: Answer) -> u8
-    ensures { result ≡ answer_of a }
-{
-    match a {
-        Answer::Taken => 0,
-        Answer::NoCode => 2,
+// The number of a refusal.
+impl From<NoCode> for u8 {
+    ghost from_gives = { λ _ r. r ≡ 2 };
+
+    fn from(_e: NoCode) -> u8 {
+        2
     }
 }
 
-// A bare page in a printer with this stop, and what is known of the printer.
-pub fn start(case: Known, spot: Spot, stop: u8, onspace: bool, onreturn: bool) -> Page
-    ensures { result ≡ start case spot stop onspace onreturn }
+// The number of an answer.
+pub fn number_of(a: Result<(), NoCode>) -> u8
+    ensures { result ≡ answer_of a }
 {
-    let watch = Watch {
-        meant: case,
-        fell: false,
-        spot: watches::within(stop, spot),
-        stop,
-        onspace,
-        onreturn,
-    };
-    Page {
-        watch,
-        line: lines::bare(),
-        total: lines::none(),
+    match a {
+        Ok(()) => 0,
+        Err(e) => u8::from(e),
     }
 }
 
@@ -44,88 +32,66 @@ pub fn feeds(c: u8) -> bool
     code::row_at(Case::Letters, c) == 10
 }
 
-// The page after a code.
-fn page_after(s: Page, c: u8) -> Page
-    ensures { result ≡ page_after s c }
-{
-    let watch = s.watch;
-    let line = s.line;
-    let total = s.total;
-    if feeds(c) {
+impl Page {
+    // A bare page in a printer with a stop, and what is known of the printer.
+    pub fn start(o: Start) -> Page
+        ensures { result ≡ start o.case o.spot o.stop o.onspace o.onreturn }
+    {
         Page {
-            watch: watches::watch(watch, c),
-            line: lines::bare(),
-            total: lines::plus_tally(total, lines::tally_of(line)),
-        }
-    } else {
-        Page {
-            watch: watches::watch(watch, c),
-            line: lines::strike(line, strikes::strike_of(watch, c)),
-            total,
-        }
-    }
-}
-
-// The page after a byte, which is a code up to 31.
-pub fn step(s: Page, c: u8) -> Heard
-    ensures { result ≡ step s c }
-{
-    if c < 32 {
-        Heard {
-            answer: Answer::Taken,
-            page: page_after(s, c),
-        }
-    } else {
-        Heard {
-            answer: Answer::NoCode,
-            page: s,
+            watch: Watch {
+                meant: o.case,
+                fell: false,
+                spot: o.spot.within(o.stop),
+                stop: o.stop,
+                onspace: o.onspace,
+                onreturn: o.onreturn,
+            },
+            line: Line::bare(),
+            total: Tally::default(),
         }
     }
-}
 
-// The page after all codes up to the first byte that is none.
-pub fn run(first: Page, codes: &[u8]) -> Run
-    ensures { result ≡ run first codes.now }
-{
-    let mut s = first;
-    let mut i = 0;
-    while i < codes.len() {
-        let c = codes[i];
-        if 32 <= c {
-            return Run {
-                answer: Answer::NoCode,
-                taken: i,
-                page: s,
-            };
+    // Takes a code.
+    fn take(&mut self, c: u8)
+        ensures { self.new ≡ page_after self.old c }
+    {
+        if feeds(c) {
+            self.total = self.total + self.line.tally();
+            self.line = Line::bare();
+        } else {
+            self.line.strike(self.watch.strike(c));
         }
-        s = page_after(s, c);
-        i += 1;
+        self.watch = self.watch.after(c);
     }
-    Run {
-        answer: Answer::Taken,
-        taken: i,
-        page: s,
+
+    // Takes a byte, which is a code up to 31. Over 31 it is none, and the page stays as it was.
+    pub fn step(&mut self, c: u8) -> Result<(), NoCode>
+        ensures answer { result ≡ (step self.old c).answer }
+        ensures page { self.new ≡ (step self.old c).page }
+    {
+        if c > 31 {
+            return Err(NoCode { taken: 0 });
+        }
+        self.take(c);
+        Ok(())
     }
-}
 
-// The totals, with the line that is not ended yet.
-pub fn totals(s: Page) -> Tally
-    ensures { result ≡ totals s }
-{
-    let line = s.line;
-    let total = s.total;
-    lines::plus_tally(total, lines::tally_of(line))
-}
+    // Takes all codes up to the first byte that is none.
+    pub fn run(&mut self, codes: &[u8]) -> Result<(), NoCode>
+        ensures answer { result ≡ (run self.old codes.now).answer }
+        ensures taken { MatchResult result (λ _. length codes.now ≡ (run self.old codes.now).taken) (λ e. e.taken ≡ (run self.old codes.now).taken) }
+        ensures page { self.new ≡ (run self.old codes.now).page }
+    {
+        for (i, c) in codes.iter().enumerate() {
+            self.step(*c).map_err(|_| NoCode { taken: i })?;
+        }
+        Ok(())
+    }
 
-// The judgement of a code, by what was known before it and the line that it is on as that stands in the end.
-pub fn judgement(w: Watch, l: Line, c: u8) -> Judgement
-    ensures { result ≡ judgement w l c }
-{
-    let k = code::kind_of(c);
-    let meant = w.meant;
-    Judgement {
-        meant: strikes::sign_as(meant, k, c),
-        struck: strikes::sign_as(watches::shown(w.fell, meant), k, c),
-        verdict: lines::last_verdict(l, strikes::lands(w, k), strikes::own(w, k)),
+    // The totals, with the line that is not ended yet.
+    pub fn totals(&self) -> Tally
+        ensures { result ≡ totals self.now }
+    {
+        self.total + self.line.tally()
     }
 }

@@ -1,137 +1,99 @@
 // A code by itself: what was meant, what was struck and where, and whether one is the other.
 ghost use Rattle.std.specs.Prelude.{◌≡◌};
-ghost use Rattle.judgement.specs.Names.{Figures};
-ghost use Rattle.judgement.specs.Names.known;
-ghost use Rattle.judgement.specs.Verdict.{own_char, own, placed, strayed, lands_char, lands, sign_char, sign_as, strike_of};
+ghost use Rattle.judgement.specs.Watch.{shown_by};
+ghost use Rattle.judgement.specs.Verdict.{own_char, own, strayed, lands_char, lands, sign_as, strike_of};
+ghost use Rattle.judgement.specs.Page.{judgement};
 
-use crate::{Known, Landing, Sign, Spot, Strike, Verdict, Watch, watches};
+use crate::{Judgement, Line, Spot, Strike, Verdict, Watch};
 use code::{Case, Kind};
 
-// Whether a figure stands by itself: turned where the printer had fallen back, and BELL strikes nothing.
-fn own_figure(bell: bool, fell: bool) -> Verdict
-    ensures { result ≡ own_char bell (known.Is Figures) fell }
-{
-    if fell {
-        return Verdict::Turned;
-    }
-    if bell {
-        Verdict::Nothing
-    } else {
-        Verdict::Kept
-    }
-}
-
-// Whether a character that depends on case was struck as it was meant.
-fn own_char(bell: bool, meant: Known, fell: bool) -> Verdict
-    ensures { result ≡ own_char bell meant fell }
-{
-    match meant {
-        Known::Unknown => Verdict::Unknown,
-        Known::Is(case) => match case {
-            Case::Letters => Verdict::Kept,
-            Case::Figures => own_figure(bell, fell),
-        },
-    }
-}
-
-// The same of a code of this kind; a space lands and strikes nothing.
-pub fn own(w: Watch, k: Kind) -> Verdict
-    ensures { result ≡ own w k }
-{
-    let meant = w.meant;
-    match k {
-        Kind::Still => Verdict::Nothing,
-        Kind::Space => Verdict::Nothing,
-        Kind::Return => Verdict::Nothing,
-        Kind::Shift(_) => Verdict::Nothing,
-        Kind::Char(bell) => own_char(bell, meant, w.fell),
-    }
-}
-
-// The carriage's place, as a landing.
-fn placed(spot: Spot) -> Landing
-    ensures { result ≡ placed spot }
-{
-    match spot {
-        Spot::At(n) => Landing::There(n),
-        Spot::From(n) => Landing::Somewhere(n),
-    }
-}
-
-// The same, where perhaps nothing is struck.
-fn strayed(spot: Spot) -> Landing
-    ensures { result ≡ strayed spot }
-{
-    match spot {
-        Spot::At(n) => Landing::Somewhere(n),
-        Spot::From(n) => Landing::Somewhere(n),
-    }
-}
-
-// Where a code that depends on case is struck.
-fn lands_char(bell: bool, k: Known, spot: Spot) -> Landing
-    ensures { result ≡ lands_char bell k spot }
-{
-    if bell {
-        match k {
-            Known::Unknown => strayed(spot),
-            Known::Is(case) => match case {
-                Case::Letters => placed(spot),
-                Case::Figures => Landing::Nowhere,
-            },
-        }
-    } else {
-        placed(spot)
-    }
-}
-
-// Where a code of this kind is struck.
-pub fn lands(w: Watch, k: Kind) -> Landing
-    ensures { result ≡ lands w k }
-{
-    let spot = w.spot;
-    let meant = w.meant;
-    match k {
-        Kind::Still => Landing::Nowhere,
-        Kind::Space => Landing::Nowhere,
-        Kind::Return => Landing::Nowhere,
-        Kind::Shift(_) => Landing::Nowhere,
-        Kind::Char(bell) => lands_char(bell, watches::shown(w.fell, meant), spot),
-    }
-}
-
-// The character of a code that depends on case.
-fn sign_char(k: Known, c: u8) -> Sign
-    ensures { result ≡ sign_char k c }
-{
-    match k {
-        Known::Unknown => Sign::Unknown,
-        Known::Is(case) => Sign::Is(code::row_at(case, c)),
+impl Spot {
+    // The place, where perhaps nothing is struck.
+    fn strayed(self) -> Option<Spot>
+        ensures { result ≡ strayed self }
+    {
+        let (Spot::At(n) | Spot::From(n)) = self;
+        Some(Spot::From(n))
     }
 }
 
 // The character of a code in a case, where it can be known.
-pub fn sign_as(known: Known, k: Kind, c: u8) -> Sign
+pub fn sign_as(known: Option<Case>, k: Kind, c: u8) -> Option<u8>
     ensures { result ≡ sign_as known k c }
 {
     match k {
-        Kind::Still => Sign::Is(code::row_at(Case::Letters, c)),
-        Kind::Space => Sign::Is(code::row_at(Case::Letters, c)),
-        Kind::Return => Sign::Is(code::row_at(Case::Letters, c)),
-        Kind::Shift(_) => Sign::Is(code::row_at(Case::Letters, c)),
-        Kind::Char(_) => sign_char(known, c),
+        Kind::Char(_) => known.map(|case| code::row_at(case, c)),
+        _ => Some(code::row_at(Case::Letters, c)),
     }
 }
 
-// A code by itself.
-pub fn strike_of(w: Watch, c: u8) -> Strike
-    ensures { result ≡ strike_of w c }
-{
-    let k = code::kind_of(c);
-    let meant = w.meant;
-    Strike {
-        lands: lands(w, k),
-        sign: sign_as(watches::shown(w.fell, meant), k, c),
-        own: own(w, k),
+impl Watch {
+    // Whether a character that depends on case was struck as it was meant: a figure is turned where the printer had fallen back,
+    // and BELL strikes nothing.
+    fn own_char(self, bell: bool) -> Verdict
+        ensures { result ≡ own_char bell self.meant self.fell }
+    {
+        match self.meant {
+            None => Verdict::Unknown,
+            Some(Case::Letters) => Verdict::Kept,
+            Some(Case::Figures) if self.fell => Verdict::Turned,
+            Some(Case::Figures) if bell => Verdict::Nothing,
+            Some(Case::Figures) => Verdict::Kept,
+        }
+    }
+
+    // The same of a code of this kind; a space lands and strikes nothing.
+    pub fn own(self, k: Kind) -> Verdict
+        ensures { result ≡ own self k }
+    {
+        match k {
+            Kind::Char(bell) => self.own_char(bell),
+            _ => Verdict::Nothing,
+        }
+    }
+
+    // Where a code that depends on case is struck.
+    fn lands_char(self, bell: bool) -> Option<Spot>
+        ensures { result ≡ lands_char bell (shown_by self.fell self.meant) self.spot }
+    {
+        match self.shown() {
+            Some(Case::Figures) if bell => None,
+            None if bell => self.spot.strayed(),
+            _ => Some(self.spot),
+        }
+    }
+
+    // Where a code of this kind is struck.
+    pub fn lands(self, k: Kind) -> Option<Spot>
+        ensures { result ≡ lands self k }
+    {
+        match k {
+            Kind::Char(bell) => self.lands_char(bell),
+            _ => None,
+        }
+    }
+
+    // A code by itself.
+    pub fn strike(self, c: u8) -> Strike
+        ensures { result ≡ strike_of self c }
+    {
+        let k = code::kind_of(c);
+        Strike {
+            lands: self.lands(k),
+            sign: sign_as(self.shown(), k, c),
+            own: self.own(k),
+        }
+    }
+
+    // The judgement of a code, by what was known before it and the line that it is on as that stands in the end.
+    pub fn judgement(self, l: &Line, c: u8) -> Judgement
+        ensures { result ≡ judgement self l.now c }
+    {
+        let s = self.strike(c);
+        Judgement {
+            meant: sign_as(self.meant, code::kind_of(c), c),
+            struck: s.sign,
+            verdict: l.last_verdict(s.lands, s.own),
+        }
     }
 }
