@@ -1,39 +1,48 @@
 -- A record as far as it was read.
-use Rattle.std.specs.Prelude.{ℕ, ◌+◌, ◌%◌, ◌^◌, Bool, true, false, cond, List, [], ◌∷◌}
-use Rattle.judgement.specs.Page.{feeds, step}
-use Rattle.words.specs.declared.Reader.{Reader}
-use Rattle.words.specs.declared.Item.{Item}
-use Rattle.words.specs.declared.Item.TheVariants as item
-use Rattle.words.specs.Words.{read, finish}
+use Rattle.std.specs.Prelude.{ℕ, ◌+◌, ◌%◌, ◌^◌, cond, List, [], ◌∷◌, Option, Some, None, Result, Ok, Err}
+use Rattle.judgement.specs.declared.Start.{Start}
+use Rattle.judgement.specs.Page.{start, feeds, step}
+use Rattle.words.specs.declared.BadWord.{BadWord}
+use Rattle.words.specs.declared.Read.{Read}
+use Rattle.words.specs.Words.{fresh, read, finish}
 use Rattle.paper.specs.declared.reading.Record.{Record}
 
--- the record that goes no further
-abbrev pub stopped : Record → Record
-stopped r = record { reader = r.reader; page = r.page; number = r.number; goes = false }
+-- a record of which nothing was read
+abbrev pub begun : Start → Record
+begun o = record { reader = fresh; page = start o.case o.spot o.stop o.onspace o.onreturn; number = 1 }
 
--- the record with the words read, and whether to go on
-abbrev pub read_to : Record → Reader → Bool → Record
-read_to r q goes = record { reader = q; page = r.page; number = r.number; goes = goes }
+-- what comes of something read: whether the record goes on, and how far it is read
+pub record Taken : Type 0 where
+  pub answer : Result (Unit {0}) BadWord
+  pub upto : Record
 
 -- after a code; a line feed ends a line
-abbrev pub after_code : Record → Reader → ℕ → Record
-after_code r q c = record { reader = q; page = (step r.page c).page; number = cond (feeds c) ((r.number + 1) % 2 ^ 64) r.number; goes = true }
+abbrev pub after_code : Record → ℕ → Record
+after_code r c = record { reader = r.reader; page = (step r.page c).page; number = cond (feeds c) ((r.number + 1) % 2 ^ 64) r.number }
 
 -- after a word, if one was read; a bad one ends it
-abbrev pub after_item : Record → Reader → Item → Record
-after_item r q item.Nothing = read_to r q true
-after_item r q (item.Code c) = after_code r q c
-after_item r q item.Bad = read_to r q false
+abbrev pub after_item : Record → Result (Option ℕ) BadWord → Taken
+after_item r (Ok None) = record { answer = Ok tt; upto = r }
+after_item r (Ok (Some c)) = record { answer = Ok tt; upto = after_code r c }
+after_item r (Err e) = record { answer = Err e; upto = r }
 
--- after a byte, if it goes on
-abbrev pub after_byte : Record → ℕ → Record
-after_byte r b = cond r.goes (after_item r (read r.reader b).reader (read r.reader b).item) r
+abbrev pub after_read : Record → Read → Taken
+after_read r q = after_item (record r { reader = q.reader }) q.item
+
+-- after a byte
+abbrev pub after_byte : Record → ℕ → Taken
+after_byte r b = after_read r (read r.reader b)
+
+-- the rest is read if the record goes on
+abbrev pub unless_bad : Result (Unit {0}) BadWord → Taken → Taken → Taken
+unless_bad (Ok u) t rest = rest
+unless_bad (Err e) t rest = t
 
 -- after some bytes
-abbrev pub after_bytes : Record → List ℕ → Record
-after_bytes r [] = r
-after_bytes r (b ∷ bs) = after_bytes (after_byte r b) bs
+abbrev pub after_bytes : Record → List ℕ → Taken
+after_bytes r [] = record { answer = Ok tt; upto = r }
+after_bytes r (b ∷ bs) = unless_bad (after_byte r b).answer (after_byte r b) (after_bytes (after_byte r b).upto bs)
 
 -- at the end of the bytes, which ends the last word
-abbrev pub after_last : Record → Record
-after_last r = after_item r (finish r.reader).reader (finish r.reader).item
+abbrev pub after_last : Record → Taken
+after_last r = after_read r (finish r.reader)

@@ -1,5 +1,6 @@
 -- What is shown of a line of the paper.
-use Rattle.std.specs.Prelude.{ℕ, ◌+◌, Bool, true, false, cond, ◌||◌, List, [], ◌∷◌, ◌==◌, nat_lt}
+use Rattle.std.specs.Prelude.{ℕ, ◌+◌, Bool, cond, ◌||◌, List, [], ◌∷◌, ◌==◌, nat_lt, Option, Some, None}
+use Rattle.std.specs.Option.{option_map_or}
 use Rattle.judgement.specs.declared.Line.{Line}
 use Rattle.paper.specs.declared.show.Stretch.{Stretch}
 
@@ -21,19 +22,10 @@ abbrev pub spaced : List ℕ → List ℕ
 spaced [] = []
 spaced (x ∷ xs) = inked x ∷ spaced xs
 
--- a place stands as v
-abbrev pub has : ℕ → List ℕ → Bool
-has v [] = false
-has v (x ∷ xs) = x == v || has v xs
-
--- no place is held
-abbrev pub no_stretch : Stretch
-no_stretch = record { held = false; from = 0; to = 0 }
-
 -- a stretch with one place more
-abbrev pub longer : Stretch → ℕ → Stretch
-longer s i = record { held = true; from = cond s.held s.from i; to = i }
+abbrev pub longer : Option Stretch → ℕ → Option Stretch
+longer s i = Some (record { from = option_map_or (λ (x : Stretch). x.from) s i; to = i })
 
 -- the stretch after a place that stands so, of those that stand as v: another kind ends it, and a bare place does not
-abbrev pub after_place : Stretch → ℕ → ℕ → ℕ → Stretch
-after_place s i stand v = cond (stand == v) (longer s i) (cond (stand == 0) s no_stretch)
+abbrev pub after_place : Option Stretch → ℕ → ℕ → ℕ → Option Stretch
+after_place s i stand v = cond (stand == v) (longer s i) (cond (stand == 0) s None)

@@ -7,8 +7,7 @@ mod output;
 mod reading;
 mod show;
 
-use judgement::{Line, Tally, lines, pages};
-use options::Options;
+use judgement::{Line, Start, Tally, Verdict};
 use output::Output;
 use reading::Record;
 use show::Stretch;
@@ -17,218 +16,173 @@ use std::io;
 use std::io::Read;
 use words::Reader;
 
-// Prints the first bytes, so many as there are.
-fn print_front(out: &mut Output<'_, impl Print>, s: &[u8], n: usize) {
-    if n <= s.len() {
-        out.print(&s[0..n]);
-    } else {
-        out.print(s);
-        out.print(b"..");
-    }
-}
+// An argument is none of those that there are.
+#[derive(Drop)]
+struct BadArgument;
 
-// Says which word is no code, and that the page ends before it.
-fn print_bad_word(out: &mut Output<'_, impl Print>, r: Reader) {
-    let held = r.held;
-    let size = r.size;
-    out.print(b"paper: word ");
-    out.print_decimal(r.place);
-    out.print(b", `");
-    print_front(out, &held, size);
-    out.print(b"`, is no code from 0 to 31: nothing from its line on is shown\n");
+// Says which word is no code, and that the page ends before it. Of a word that is too long its first bytes are shown.
+fn print_bad_word(out: &mut Output<'_, impl Print>, r: &Reader) {
+    out.print(format_args!("paper: word {}, `", r.place));
+    match r.held.get(..r.size) {
+        Some(word) => out.write(word),
+        None => {
+            out.write(&r.held);
+            out.print("..");
+        }
+    }
+    out.print("`, is no code from 0 to 31: nothing from its line on is shown\n");
 }
 
 // Prints a row after a mark.
-fn print_row(out: &mut Output<'_, impl Print>, mark: &[u8], row: [u8; 256]) {
-    let n = show::row_size(&row);
-    let mut text = row;
+fn print_row(out: &mut Output<'_, impl Print>, mark: &str, row: &[u8; 256]) {
+    let mut text = *row;
     show::space(&mut text);
     out.print(mark);
-    out.print(&text[0..n]);
-    out.print(b"\n");
+    out.write(&text[..show::row_size(row)]);
+    out.print("\n");
 }
 
-// Prints a stretch that is held.
+// Prints a stretch.
 fn print_stretch(out: &mut Output<'_, impl Print>, s: Stretch) {
-    if s.held {
-        out.print(b" ");
-        out.print_decimal(s.from as u64);
-        if s.from < s.to {
-            out.print(b"-");
-            out.print_decimal(s.to as u64);
-        }
+    out.print(format_args!(" {}", s.from));
+    if s.from < s.to {
+        out.print(format_args!("-{}", s.to));
     }
 }
 
 // Prints the places that stand as `v`, after a name, if there are any.
-fn print_places(out: &mut Output<'_, impl Print>, name: &[u8], standings: &[u8], v: u8) {
-    if show::has(standings, v) {
+fn print_places(out: &mut Output<'_, impl Print>, name: &str, standings: &[u8], v: Verdict) {
+    if standings.contains(&u8::from(v)) {
         out.print(name);
     }
-    let mut s = show::no_stretch();
-    let mut i = 0;
-    while i < standings.len() {
-        let next = show::after_place(s, i, standings[i], v);
-        if !next.held {
+    let mut held = None;
+    for (i, x) in standings.iter().enumerate() {
+        let next = show::after_place(held, i, *x, v);
+        if let (Some(s), None) = (held, next) {
             print_stretch(out, s);
         }
-        s = next;
-        i += 1;
+        held = next;
     }
-    print_stretch(out, s);
+    if let Some(s) = held {
+        print_stretch(out, s);
+    }
 }
 
 // Prints which places of a line can be kept, and which cannot.
-fn print_kept(out: &mut Output<'_, impl Print>, line: Line, number: u64) {
-    let stand = line.stand;
-    let standings = lines::standings(line.strays, stand);
-    out.print(b"  line ");
-    out.print_decimal(number);
-    if show::has(&standings, 1) {
-        print_places(out, b": kept", &standings, 1);
+fn print_kept(out: &mut Output<'_, impl Print>, line: &Line, number: u64) {
+    let standings = line.standings();
+    out.print(format_args!("  line {number}"));
+    if standings.contains(&u8::from(Verdict::Kept)) {
+        print_places(out, ": kept", &standings, Verdict::Kept);
     } else if show::is_marked(line) {
-        out.print(b": kept none");
+        out.print(": kept none");
     } else {
-        out.print(b": nothing struck");
+        out.print(": nothing struck");
     }
-    print_places(out, b"; turned", &standings, 2);
-    print_places(out, b"; struck over", &standings, 3);
-    print_places(out, b"; unknown", &standings, 4);
+    print_places(out, "; turned", &standings, Verdict::Turned);
+    print_places(out, "; struck over", &standings, Verdict::Over);
+    print_places(out, "; unknown", &standings, Verdict::Unknown);
     if line.strays > 0 {
-        out.print(b"; unknown where ");
-        out.print_decimal(line.strays);
+        out.print(format_args!("; unknown where {}", line.strays));
     }
-    out.print(b"\n");
+    out.print("\n");
 }
 
 // Prints a line of the paper and what of it can be kept. What is at no known place goes on a row of its own.
-fn print_line(out: &mut Output<'_, impl Print>, line: Line, number: u64) {
-    let ink = line.ink;
-    let drift = line.drift;
+fn print_line(out: &mut Output<'_, impl Print>, line: &Line, number: u64) {
     if line.strays > 0 {
-        print_row(out, b"~", drift);
+        print_row(out, "~", &line.drift);
     }
     if line.landed > 0 || line.strays == 0 {
-        print_row(out, b"|", ink);
+        print_row(out, "|", &line.ink);
     }
     print_kept(out, line, number);
 }
 
 // Prints the totals.
 fn print_totals(out: &mut Output<'_, impl Print>, t: Tally) {
-    out.print(b"total: kept ");
-    out.print_decimal(t.kept);
-    out.print(b", turned ");
-    out.print_decimal(t.turned);
-    out.print(b", struck over ");
-    out.print_decimal(t.over);
-    out.print(b", unknown ");
-    out.print_decimal(t.unknown);
-    out.print(b"\n");
+    out.print(format_args!("total: kept {}, turned {}, ", t.kept, t.turned));
+    out.print(format_args!("struck over {}, unknown {}\n", t.over, t.unknown));
 }
 
 // Says which argument is none, and what there is.
 fn print_bad_argument(out: &mut Output<'_, impl Print>, i: usize, s: &[u8]) {
-    out.print(b"paper: argument ");
-    out.print_decimal(i as u64);
-    out.print(b", `");
-    out.print(s);
-    out.print(
-        b"`, is none of these:\n  stop=N  (72) the right stop, 0 to 255: how many places stand before it\n",
-    );
-    out.print(
-        b"  space=unshifts or space=keeps  (keeps)\n  return=unshifts or return=keeps  (keeps)\n",
-    );
-    out.print(b"  case=letters, case=figures or case=unknown  (unknown) at the start\n");
-    out.print(b"  place=N or place=unknown  (unknown) at the start, 0 to 255\n");
+    out.print(format_args!("paper: argument {i}, `"));
+    out.write(s);
+    out.print("`, is none of these:\n");
+    out.print("  stop=N  (72) the right stop, 0 to 255: how many places stand before it\n");
+    out.print("  space=unshifts or space=keeps  (keeps)\n");
+    out.print("  return=unshifts or return=keeps  (keeps)\n");
+    out.print("  case=letters, case=figures or case=unknown  (unknown) at the start\n");
+    out.print("  place=N or place=unknown  (unknown) at the start, 0 to 255\n");
 }
 
-// The options after the argument of this number, if there is one.
+// The start after the argument of this number, if there is one. One that is none of them is shown.
 fn read_argument(
     rt: &impl Env,
     out: &mut Output<'_, impl Print>,
-    o: Options,
+    o: Start,
     i: usize,
-) -> Option<Options> {
+) -> Result<Option<Start>, BadArgument> {
     let mut buf = [0u8; 64];
-    match rt.arg(i, &mut buf) {
-        Ok(n) => {
-            let next = options::with_argument(o, &buf[..n]);
-            if !next.good {
-                print_bad_argument(out, i, &buf[..n]);
-            }
-            Some(next)
-        }
-        Err(FillError::TooLong) => {
-            print_bad_argument(out, i, &buf);
-            Some(options::refused(o))
-        }
-        Err(FillError::NotPresent) => None,
+    let (next, shown) = match rt.arg(i, &mut buf) {
+        Ok(n) => (options::with_argument(o, &buf[..n]), n),
+        Err(FillError::TooLong) => (None, 64),
+        Err(FillError::NotPresent) => return Ok(None),
+    };
+    if next.is_none() {
+        print_bad_argument(out, i, &buf[..shown]);
+        return Err(BadArgument);
     }
+    Ok(next)
 }
 
-// What all arguments say, up to one that is none.
-fn read_arguments(rt: &impl Env, out: &mut Output<'_, impl Print>) -> Options {
+// What all arguments say.
+fn read_arguments(rt: &impl Env, out: &mut Output<'_, impl Print>) -> Result<Start, BadArgument> {
     let mut o = options::start();
     for i in 1..usize::MAX {
-        if !o.good {
-            return o;
-        }
-        match read_argument(rt, out, o, i) {
+        match read_argument(rt, out, o, i)? {
             Some(next) => o = next,
-            None => return o,
+            None => break,
         }
     }
-    o
+    Ok(o)
 }
 
 // At the end of the record: its last word, the line that was not fed out, and the totals.
-fn finish(out: &mut Output<'_, impl Print>, r: Record) {
-    let last = reading::after_last(out, r);
-    let page = last.page;
-    let line = page.line;
-    if last.goes {
-        if show::is_marked(line) {
-            print_line(out, line, last.number);
-        }
-        print_totals(out, pages::totals(page));
+fn finish(out: &mut Output<'_, impl Print>, r: &mut Record) {
+    if r.take_last(out).is_err() {
+        return;
     }
+    if show::is_marked(&r.page.line) {
+        print_line(out, &r.page.line, r.number);
+    }
+    print_totals(out, r.page.totals());
 }
 
-// The record after one more read of its input. At its end it is finished, and goes no further.
-fn take_some(out: &mut Output<'_, impl Print>, input: &mut impl Read, r: Record) -> Record {
+// Reads the record to its end, while it can be shown.
+fn take_all(out: &mut Output<'_, impl Print>, input: &mut impl Read, r: &mut Record) {
     let mut buf = [0u8; 4096];
-    match input.read(&mut buf) {
-        Ok(0) => finish(out, r),
-        Ok(n) => return reading::after_bytes(out, r, &buf[..n]),
-        Err(_) => out.print(b"paper: the record cannot be read to its end\n"),
-    }
-    reading::stopped(r)
-}
-
-// Reads the record to its end, while it can be shown. A proved loop has to end, so it counts its turns down from a number that no run uses up.
-fn take_all(out: &mut Output<'_, impl Print>, input: &mut impl Read, first: Record) {
-    let mut r = first;
-    let mut turns = u64::MAX;
-    while turns > 0 && r.goes && out.is_open() {
-        r = take_some(out, input, r);
-        turns -= 1;
+    for _ in 0..u64::MAX {
+        if !out.is_open() {
+            return;
+        }
+        match input.read(&mut buf) {
+            Ok(0) => return finish(out, r),
+            Ok(n) => {
+                if r.take_bytes(out, &buf[..n]).is_err() {
+                    return;
+                }
+            }
+            Err(_) => return out.print("paper: the record cannot be read to its end\n"),
+        }
     }
 }
 
 fn main(rt: HostRuntime) -> io::Result<()> {
     let mut out = Output::new(&rt);
-    let o = read_arguments(&rt, &mut out);
-    if o.good {
-        let case = o.case;
-        let spot = o.spot;
-        let first = Record {
-            reader: words::fresh(),
-            page: pages::start(case, spot, o.stop, o.onspace, o.onreturn),
-            number: 1,
-            goes: true,
-        };
-        take_all(&mut out, &mut rt.reader(), first);
+    if let Ok(o) = read_arguments(&rt, &mut out) {
+        take_all(&mut out, &mut rt.reader(), &mut Record::begin(o));
     }
     out.finish()
 }

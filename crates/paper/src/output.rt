@@ -2,6 +2,7 @@
 ghost use Rattle.std.specs.Prelude.{◌≡◌, IsOk, IsErr};
 ghost use Rattle.std.specs.Result.{is_ok};
 
+use std::fmt::Display;
 use std::io;
 
 #[derive(Drop)]
@@ -29,20 +30,20 @@ impl<'a, P: Print> Output<'a, P> {
     }
 
     // Writes some bytes.
-    pub fn print(&mut self, s: &[u8])
+    pub fn write(&mut self, s: &[u8])
         ensures { IsErr self.old.written → self.new ≡ self.old }
     {
-        if self.written.is_ok() {
+        if self.is_open() {
             self.written = self.to.write_all(s);
         }
     }
 
-    // Writes a number in decimal.
-    pub fn print_decimal(&mut self, n: u64)
+    // Writes what can be shown as text.
+    pub fn print(&mut self, x: impl Display + Drop)
         ensures { IsErr self.old.written → self.new ≡ self.old }
     {
-        if self.written.is_ok() {
-            self.written = self.to.print(n);
+        if self.is_open() {
+            self.written = self.to.print(x);
         }
     }
 

@@ -1,8 +1,0 @@
--- `paper::take_all` is safe and ends. The measure is how many turns are left.
-use Rattle.paper.proofs.take_all.Given as goal
-
-abbrev pub invariant-loop-turns : goal.invariant-loop-turns
-invariant-loop-turns g l = Unit {0}
-
-abbrev pub decreases-loop-turns : goal.decreases-loop-turns
-decreases-loop-turns g l = l.turns
