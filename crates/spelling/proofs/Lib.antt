@@ -1,3 +1,4 @@
 pub mod Parts
+pub mod Places
 pub mod Same
 pub mod ReadBack

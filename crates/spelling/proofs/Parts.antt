@@ -2,21 +2,11 @@
 -- Assumes nothing.
 use Prim.Native.Nat.{ℕ}
 use mathlib.Core.Path.{◌≡◌, refl}
-use mathlib.Core.Bool.{Bool, true, false}
 use mathlib.Core.List.{List, [], ◌∷◌, ◌++◌}
 use lib.ListN.{length, set, replicate}
-use mir.Val.{bool_byte}
-use Rattle.spelling.specs.Names.{Stage, Text, Swallow, Held, Begun, Lettered, Typed, Fields, Discard, Settings, Calling, Column, At, Run, Off, Called, On, Motor, State}
-use Rattle.spelling.specs.Names.column
-use Rattle.spelling.specs.Spelling.{part, bit, case_byte, known_byte, last_byte, offsets, sets_at, string_bytes, connection_bytes, column_bytes, sender_bytes, stage_bytes, run_bytes, heard_bytes, signals_bytes, spelt, puts}
-
-pub as_bit : (b : Bool) → bool_byte b ≡ bit b
-as_bit true = refl
-as_bit false = refl
-
--- so many bytes
-abbrev pub Has : ℕ → List ℕ → Type 0
-Has n xs = part xs 0 n ≡ xs
+use Rattle.spelling.specs.Names.{Stage, Text, Swallow, Held, Begun, Lettered, Typed, Fields, Discard, Settings, Calling, Run, Off, Called, On, Motor, State}
+use Rattle.spelling.specs.Back.{Has, two}
+use Rattle.spelling.specs.Spelling.{part, case_byte, known_byte, last_byte, offsets, sets_at, string_bytes, connection_bytes, column_bytes, sender_bytes, stage_bytes, run_bytes, heard_bytes, signals_bytes, spelt, puts}
 
 pub eight : (o : Settings) → Has 8 (string_bytes o)
 eight o = refl
@@ -31,10 +21,6 @@ pub two_run : (r : Run) → Has 2 (run_bytes r)
 two_run Off = refl
 two_run (Called n) = refl
 two_run On = refl
-
-pub two : (c : Column) → Has 2 (column_bytes c)
-two column.Unknown = refl
-two (At n) = refl
 
 pub four : (s : Stage) → Has 4 (stage_bytes s)
 four Text = refl
@@ -76,17 +62,19 @@ module _ (s : State) where
 
   -- what each part leaves, put over what the parts before it left
   pub put_all :
-      {a b d e f g h i : List ℕ}
+      {a b d e f g h i j k : List ℕ}
       → a ≡ sets_at (puts (replicate 128 0) 6 (string_bytes s.settings)) offsets 0 s.settings.values
       → b ≡ puts a 14 (connection_bytes s.connection)
       → d ≡ puts b 17 (sender_bytes s.sender)
-      → e ≡ puts d 21 (case_byte s.reading ∷ case_byte s.incoming ∷ [])
-      → f ≡ puts e 23 (stage_bytes s.reader.stage)
-      → g ≡ puts f 27 (part s.reader.values 0 11)
-      → h ≡ puts (set g 39 s.calling.power) 64 (signals_bytes s.calling)
-      → i ≡ puts (puts h 44 (run_bytes s.motor.run)) 56 (heard_bytes s.motor)
-      → i ≡ spelt s
-  put_all p q r t u v w x = rw (x, w, v, u, t, r, q, p) filled_spelt
+      → e ≡ puts d 21 (case_byte s.reading ∷ [])
+      → f ≡ puts e 22 (case_byte s.incoming ∷ [])
+      → g ≡ puts f 23 (stage_bytes s.reader.stage)
+      → h ≡ puts g 27 (part s.reader.values 0 11)
+      → i ≡ puts (set h 39 s.calling.power) 64 (signals_bytes s.calling)
+      → j ≡ puts i 44 (run_bytes s.motor.run)
+      → k ≡ puts j 56 (heard_bytes s.motor)
+      → k ≡ spelt s
+  put_all p q r t u v w x y z = rw (z, y, x, w, v, u, t, r, q, p) filled_spelt
 
   -- and bytes that are it are 128
   pub as_long : (b : List ℕ) → b ≡ spelt s → length b ≡ 128

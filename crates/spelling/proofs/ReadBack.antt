@@ -1,13 +1,11 @@
 -- Spelling a state and reading it back gives the state, and each state has one spelling.
 -- Assumes nothing.
-use Prim.Native.Nat.{ℕ, zero, suc, ◌+◌, ◌-◌, ◌<◌}
+use Prim.Native.Nat.{ℕ, ◌<◌}
 use mathlib.Core.Path.{◌≡◌, refl, ap, ◌∙◌}
-use mathlib.Core.Bool.{Bool, true, false}
-use mathlib.Core.List.{List, [], ◌∷◌}
-use native.Mathlib.Nat.{mod-eq_of_lt}
+use mathlib.Core.Bool.{true}
+use mathlib.Core.List.{List, ◌∷◌}
 use native.Mathlib.Omega.{arith}
-use borrow.Author.Tests.{ltb-true, leb-true, ne_eqb}
-use lib.Dec.{eqb}
+use borrow.Author.Tests.{ltb-true}
 use lib.ListN.{length, get_or}
 use Rattle.settings.specs.Table.{options}
 use Rattle.word.specs.Word.{number_by, is_word}
@@ -16,78 +14,13 @@ use Rattle.settings.proofs.Held.{length_in, values_in, string_word, five_strings
 use Rattle.motor.specs.Motor.{sound_run, sound_motor}
 use Rattle.step.specs.State.{sound}
 use Rattle.step.proofs.Stays.{sound_parts}
-use Rattle.spelling.specs.Names.{Case, Letters, Figures, Verb, Write, Read, Other, Form, Empty, Digits, Ex, Stage, Text, Swallow, Held, Begun, Lettered, Typed, Fields, Discard, Calling, Known, Is, Column, At, Last, Shift, Run, Off, Called, On, Motor, State}
-use Rattle.spelling.specs.Names.known
-use Rattle.spelling.specs.Names.column
-use Rattle.spelling.specs.Names.last
-use Rattle.spelling.specs.Spelling.{bit, case_byte, known_byte, last_byte, verb_byte, form_byte, string_bytes, column_bytes, stage_bytes, run_bytes, heard_bytes, signal_bytes, signals_bytes, spelt, case_of, known_of, last_of, verb_of, form_of, column_of, stage_of, word_at, signals_of, run_of, state_of, spells, part}
-use Rattle.spelling.proofs.Parts.{Has, eight, eight_heard, forty, two, two_run, four, laid}
+use Rattle.spelling.specs.Names.{Calling, Motor, State}
+use Rattle.spelling.specs.Spelling.{string_bytes, heard_bytes, signal_bytes, signals_bytes, spelt, column_of, stage_of, word_at, signals_of, run_of, state_of, spells, part}
+use Rattle.spelling.proofs.Parts.{eight, eight_heard, forty, two_run, four, laid}
+use Rattle.spelling.specs.Back.{Has, two, case_back, known_back, last_back, column_back, stage_back, run_back, all}
 use Rattle.laws.proofs.Both.{both}
 use Rattle.laws.proofs.Same.{same_self}
 use Rattle.spelling.proofs.Same.{its_spelling}
-
-bit_back : (b : Bool) → eqb (bit b) 1 ≡ b
-bit_back true = refl
-bit_back false = refl
-
-case_back : (c : Case) → case_of (case_byte c) ≡ c
-case_back Letters = refl
-case_back Figures = refl
-
-known_back : (k : Known) → known_of (known_byte k) ≡ k
-known_back known.Unknown = refl
-known_back (Is Letters) = refl
-known_back (Is Figures) = refl
-
-last_back : (l : Last) → last_of (last_byte l) ≡ l
-last_back last.Other = refl
-last_back (Shift Letters) = refl
-last_back (Shift Figures) = refl
-
-column_back : (c : Column) → column_of (get_or (column_bytes c) 0 0) (get_or (column_bytes c) 1 0) ≡ c
-column_back column.Unknown = refl
-column_back (At n) = refl
-
-verb_back : (v : Verb) → verb_of (verb_byte v) ≡ v
-verb_back Write = refl
-verb_back Read = refl
-verb_back Other = refl
-
-form_back : (f : Form) → form_of (form_byte f) ≡ f
-form_back Empty = refl
-form_back Digits = refl
-form_back Ex = refl
-
-stage_back : (s : Stage) → stage_of (get_or (stage_bytes s) 0 0) (get_or (stage_bytes s) 1 0) (get_or (stage_bytes s) 2 0) (get_or (stage_bytes s) 3 0) ≡ s
-stage_back Text = refl
-stage_back Swallow = refl
-stage_back Held = refl
-stage_back Begun = refl
-stage_back (Lettered small t) = simp bit_back
-stage_back (Typed v) = simp verb_back
-stage_back (Fields v f last) = simp (verb_back, form_back)
-stage_back Discard = refl
-
--- a list is its part from 0 on, as long as it is
-tail : (x : ℕ) (xs : List ℕ) (i n : ℕ) → part (x ∷ xs) (suc i) n ≡ part xs i n
-tail x xs i zero = refl
-tail x xs i (suc n) = rw (tail x xs (suc i) n)
-
-whole : (xs : List ℕ) → part xs 0 (length xs) ≡ xs
-whole [] = refl
-whole (x ∷ xs) = rw (tail x xs 0 (length xs), whole xs)
-
-all : (xs : List ℕ) (n : ℕ) → length xs ≡ n → part xs 0 n ≡ xs
-all xs n e = rw e at (whole xs)
-
-run_back : (r : Run) → sound_run r ≡ true → run_of (get_or (run_bytes r) 0 0) (get_or (run_bytes r) 1 0) ≡ r
-run_back Off h = refl
-run_back (Called n) h =
-    let l : n + 1 < 256 = omega (arith, leb-true n 8 h) in
-    let m : (n + 1 ≡ 0) → ⊥ = λ (e : n + 1 ≡ 0). omega (arith, e) in
-    let d : n + 1 - 1 ≡ n = omega arith in
-    rw (mod-eq_of_lt l, ne_eqb (n + 1) 0 m, d)
-run_back On h = refl
 
 cons : {x y : ℕ} {xs ys : List ℕ} → x ≡ y → xs ≡ ys → x ∷ xs ≡ y ∷ ys
 cons p q = rw (p, q)

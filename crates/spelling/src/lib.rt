@@ -3,4 +3,4 @@
 
 pub mod load;
 pub mod save;
-mod words;
+mod spelled;

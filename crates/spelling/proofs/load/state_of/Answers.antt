@@ -4,4 +4,4 @@ use Rattle.spelling.proofs.load.state_of.Goals as goal
 
 pub returns : goal.returns
 unfolding state_of
-returns c = rw (c.reader_of-reader.ensures, c.settings_of.ensures, c.connection_of.ensures, c.sender_of.ensures, c.case_of.ensures, c.case_of-2.ensures, c.calling_of.ensures, c.motor_of.ensures)
+returns c = rw (c.settings_of.ensures, c.get.ensures, c.get-2.ensures, c.get-3.ensures, c.get-4.ensures, c.get-5.ensures, c.get-6.ensures, c.calling_of.ensures, c.get-7.ensures, c.get-8.ensures)

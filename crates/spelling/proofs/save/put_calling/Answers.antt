@@ -1,5 +1,7 @@
--- `spelling::save::put_calling` meets its contract: the strings one after another.
+-- `spelling::save::put_calling` meets its contract: the strings so far stand one after another.
+use mathlib.Core.Path.{◌≡◌}
+use Rattle.std.proofs.Common.{rules}
 use Rattle.spelling.proofs.save.put_calling.Goals as goal
 
 pub returns : goal.returns
-returns c = rw (c.put_word-5.ensures, c.put_word-4.ensures, c.put_word-3.ensures, c.put_word-2.ensures, c.put_word.ensures)
+returns c = let e : c.loop-i.i ≡ 5 = search rules in rw e at c.loop-i.invariant

@@ -3,4 +3,4 @@ use Rattle.spelling.proofs.Parts.{put_all}
 use Rattle.spelling.proofs.save.save.Goals as goal
 
 pub returns : goal.returns
-returns c = put_all c.args.s c.put_settings.ensures c.put_connection.ensures c.put_sender.ensures c.put_cases.ensures c.put_stage.ensures c.put_values.ensures c.put_calling.ensures c.put_motor.ensures
+returns c = put_all c.args.s c.put_settings.ensures c.put.ensures c.put-2.ensures c.put-3.ensures c.put-4.ensures c.put-5.ensures c.put-6.ensures c.put_calling.ensures c.put-7.ensures c.put-8.ensures

@@ -1,0 +1,367 @@
+// Parts of a state as bytes: what each part is spelt as and what bytes read as, by one trait, and a part at an offset.
+ghost use Rattle.std.specs.Prelude.{◌≡◌, ◌+◌, ◌≤◌, ◌<◌, ◌^◌, ℕ, List, [], ◌∷◌, true, get_or, length, refl};
+ghost use Rattle.word.specs.Word.{bytes_of, number_by};
+ghost use Rattle.motor.specs.Motor.{sound_run};
+ghost use Rattle.spelling.specs.Spelling.{case_byte, case_of, column_bytes, column_of, connection_bytes, form_byte, form_of, known_byte, known_of, last_byte, last_of, part, puts, run_bytes, run_of, sender_bytes, stage_bytes, stage_of, verb_byte, verb_of};
+ghost use Rattle.word.proofs.Words.{bytes_back};
+ghost use Rattle.spelling.specs.Back.{case_back, known_back, last_back, column_back, verb_back, form_back, stage_back, run_back, sender_back, all};
+
+use code::Case;
+use command::{Form, Stage, Verb};
+use motor::Run;
+use sender::{Column, Known, Last, Record, Sender};
+use settings::Connection;
+
+// A part that is spelt as N bytes.
+pub trait Spelled<const N: usize>: Copy {
+    // Its bytes, what bytes read as, and the values of the part that the box has.
+    ghost bytes: { Self → List ℕ };
+
+    ghost of: { List ℕ → Self };
+
+    ghost formed: { Self → Type 0 };
+
+    fn to_bytes(self) -> [u8; N]
+        ensures { result ≡ bytes self };
+
+    fn from_bytes(b: &[u8]) -> Self
+        requires { length b.now ≡ N }
+        ensures { result ≡ of b.now };
+
+    // What is spelt reads back.
+    ghost back: { (x : Self) → formed x → of (bytes x) ≡ x };
+}
+
+// A part's bytes from an offset on.
+pub fn put<T: Spelled<N>, const N: usize>(bytes: &mut [u8; 128], at: usize, x: T)
+    requires { at + N ≤ 128 }
+    ensures { bytes.new ≡ puts bytes.old at (T.bytes x) }
+{
+    bytes[at..at + N].copy_from_slice(&x.to_bytes());
+}
+
+// The part that the bytes from an offset on read as.
+pub fn get<T: Spelled<N>, const N: usize>(b: &[u8; 128], at: usize) -> T
+    requires { at + N ≤ 128 }
+    ensures { result ≡ T.of (part b.now at N) }
+{
+    T::from_bytes(&b[at..at + N])
+}
+
+// A case: 1 letters, 2 figures.
+impl Spelled<1> for Case {
+    ghost bytes = { λ c. case_byte c ∷ [] };
+
+    ghost of = { λ b. case_of (get_or b 0 0) };
+
+    ghost formed = { λ _. Unit {0} };
+
+    ghost back = { λ c _. case_back c };
+
+    fn to_bytes(self) -> [u8; 1] {
+        match self {
+            Case::Letters => [1],
+            Case::Figures => [2],
+        }
+    }
+
+    fn from_bytes(b: &[u8]) -> Case {
+        match b[0] {
+            1 => Case::Letters,
+            _ => Case::Figures,
+        }
+    }
+}
+
+// A command's type: 0 other, 1 TW, 2 TR.
+impl Spelled<1> for Verb {
+    ghost bytes = { λ v. verb_byte v ∷ [] };
+
+    ghost of = { λ b. verb_of (get_or b 0 0) };
+
+    ghost formed = { λ _. Unit {0} };
+
+    ghost back = { λ v _. verb_back v };
+
+    fn to_bytes(self) -> [u8; 1] {
+        match self {
+            Verb::Other => [0],
+            Verb::Write => [1],
+            Verb::Read => [2],
+        }
+    }
+
+    fn from_bytes(b: &[u8]) -> Verb {
+        match b[0] {
+            1 => Verb::Write,
+            2 => Verb::Read,
+            _ => Verb::Other,
+        }
+    }
+}
+
+// What stands in a field: 0 nothing yet, 1 digits, 2 X.
+impl Spelled<1> for Form {
+    ghost bytes = { λ f. form_byte f ∷ [] };
+
+    ghost of = { λ b. form_of (get_or b 0 0) };
+
+    ghost formed = { λ _. Unit {0} };
+
+    ghost back = { λ f _. form_back f };
+
+    fn to_bytes(self) -> [u8; 1] {
+        match self {
+            Form::Empty => [0],
+            Form::Digits => [1],
+            Form::Ex => [2],
+        }
+    }
+
+    fn from_bytes(b: &[u8]) -> Form {
+        match b[0] {
+            1 => Form::Digits,
+            2 => Form::Ex,
+            _ => Form::Empty,
+        }
+    }
+}
+
+// The case that the record has: 0 unknown.
+impl Spelled<1> for Known {
+    ghost bytes = { λ k. known_byte k ∷ [] };
+
+    ghost of = { λ b. known_of (get_or b 0 0) };
+
+    ghost formed = { λ _. Unit {0} };
+
+    ghost back = { λ k _. known_back k };
+
+    fn to_bytes(self) -> [u8; 1] {
+        match self {
+            Known::Unknown => [0],
+            Known::Is(c) => c.to_bytes(),
+        }
+    }
+
+    fn from_bytes(b: &[u8]) -> Known {
+        match b[0] {
+            0 => Known::Unknown,
+            _ => Known::Is(Case::from_bytes(b)),
+        }
+    }
+}
+
+// The last item: 0 any other or none.
+impl Spelled<1> for Last {
+    ghost bytes = { λ k. last_byte k ∷ [] };
+
+    ghost of = { λ b. last_of (get_or b 0 0) };
+
+    ghost formed = { λ _. Unit {0} };
+
+    ghost back = { λ k _. last_back k };
+
+    fn to_bytes(self) -> [u8; 1] {
+        match self {
+            Last::Other => [0],
+            Last::Shift(c) => c.to_bytes(),
+        }
+    }
+
+    fn from_bytes(b: &[u8]) -> Last {
+        match b[0] {
+            0 => Last::Other,
+            _ => Last::Shift(Case::from_bytes(b)),
+        }
+    }
+}
+
+// Whether the column is known, and the column.
+impl Spelled<2> for Column {
+    ghost bytes = { column_bytes };
+
+    ghost of = { λ b. column_of (get_or b 0 0) (get_or b 1 0) };
+
+    ghost formed = { λ _. Unit {0} };
+
+    ghost back = { λ c _. column_back c };
+
+    fn to_bytes(self) -> [u8; 2] {
+        match self {
+            Column::Unknown => [0, 0],
+            Column::At(n) => [1, n],
+        }
+    }
+
+    fn from_bytes(b: &[u8]) -> Column {
+        match b[0] {
+            1 => Column::At(b[1]),
+            _ => Column::Unknown,
+        }
+    }
+}
+
+// The command reader's stage, and what it knows of the command.
+impl Spelled<4> for Stage {
+    ghost bytes = { stage_bytes };
+
+    ghost of = { λ b. stage_of (get_or b 0 0) (get_or b 1 0) (get_or b 2 0) (get_or b 3 0) };
+
+    ghost formed = { λ _. Unit {0} };
+
+    ghost back = { λ s _. stage_back s };
+
+    fn to_bytes(self) -> [u8; 4] {
+        match self {
+            Stage::Text => [0, 0, 0, 0],
+            Stage::Swallow => [1, 0, 0, 0],
+            Stage::Held => [2, 0, 0, 0],
+            Stage::Begun => [3, 0, 0, 0],
+            Stage::Lettered(small, t) => [4, u8::from(small), u8::from(t), 0],
+            Stage::Typed(v) => {
+                let [v]: [u8; 1] = v.to_bytes();
+                [5, v, 0, 0]
+            }
+            Stage::Fields(v, f, last) => {
+                let [v]: [u8; 1] = v.to_bytes();
+                let [f]: [u8; 1] = f.to_bytes();
+                [6, v, f, last]
+            }
+            Stage::Discard => [7, 0, 0, 0],
+        }
+    }
+
+    fn from_bytes(b: &[u8]) -> Stage {
+        match b[0] {
+            0 => Stage::Text,
+            1 => Stage::Swallow,
+            2 => Stage::Held,
+            3 => Stage::Begun,
+            4 => Stage::Lettered(b[1] == 1, b[2] == 1),
+            5 => Stage::Typed(Verb::from_bytes(&b[1..2])),
+            6 => Stage::Fields(Verb::from_bytes(&b[1..2]), Form::from_bytes(&b[2..3]), b[3]),
+            _ => Stage::Discard,
+        }
+    }
+}
+
+// Whether the motor runs, and one more than the codes since the first string 93 that counts, as a byte.
+impl Spelled<2> for Run {
+    ghost bytes = { run_bytes };
+
+    ghost of = { λ b. run_of (get_or b 0 0) (get_or b 1 0) };
+
+    ghost formed = { λ r. sound_run r ≡ true };
+
+    ghost back = { run_back };
+
+    fn to_bytes(self) -> [u8; 2] {
+        match self {
+            Run::Off => [0, 0],
+            Run::Called(n) => [0, n.wrapping_add(1)],
+            Run::On => [1, 0],
+        }
+    }
+
+    fn from_bytes(b: &[u8]) -> Run {
+        match (b[0], b[1]) {
+            (1, _) => Run::On,
+            (_, 0) => Run::Off,
+            (_, n) => Run::Called(n - 1),
+        }
+    }
+}
+
+// A string, or the codes heard: the number's eight bytes, the lowest first.
+impl Spelled<8> for u64 {
+    ghost bytes = { bytes_of };
+
+    ghost of = { number_by 256 };
+
+    ghost formed = { λ n. n < 2 ^ 64 };
+
+    ghost back = { bytes_back };
+
+    fn to_bytes(self) -> [u8; 8] {
+        self.to_le_bytes()
+    }
+
+    fn from_bytes(b: &[u8]) -> u64 {
+        let mut word = [0; 8];
+        word.copy_from_slice(b);
+        u64::from_le_bytes(word)
+    }
+}
+
+// Fields of a command, a byte each.
+impl<const N: usize> Spelled<N> for [u8; N] {
+    ghost bytes = { λ xs. part xs 0 N };
+
+    ghost of = { λ b. b };
+
+    ghost formed = { λ xs. length xs ≡ N };
+
+    ghost back = { λ xs. all xs N };
+
+    fn to_bytes(self) -> [u8; N] {
+        self
+    }
+
+    fn from_bytes(b: &[u8]) -> [u8; N] {
+        let mut fields = [0; N];
+        fields.copy_from_slice(b);
+        fields
+    }
+}
+
+// The connection's mode, port and speed.
+impl Spelled<3> for Connection {
+    ghost bytes = { connection_bytes };
+
+    ghost of = { λ b. record { mode = get_or b 0 0; port = get_or b 1 0; speed = get_or b 2 0 } };
+
+    ghost formed = { λ _. Unit {0} };
+
+    ghost back = { λ _ _. refl };
+
+    fn to_bytes(self) -> [u8; 3] {
+        [self.mode, self.port, self.speed]
+    }
+
+    fn from_bytes(b: &[u8]) -> Connection {
+        Connection {
+            mode: b[0],
+            port: b[1],
+            speed: b[2],
+        }
+    }
+}
+
+// The record, and the last item.
+impl Spelled<4> for Sender {
+    ghost bytes = { sender_bytes };
+
+    ghost of = { λ b. record { held = record { case = known_of (get_or b 0 0); column = column_of (get_or b 1 0) (get_or b 2 0) }; last = last_of (get_or b 3 0) } };
+
+    ghost formed = { λ _. Unit {0} };
+
+    ghost back = { λ x _. sender_back x };
+
+    fn to_bytes(self) -> [u8; 4] {
+        let [case]: [u8; 1] = self.held.case.to_bytes();
+        let [is, n]: [u8; 2] = self.held.column.to_bytes();
+        let [last]: [u8; 1] = self.last.to_bytes();
+        [case, is, n, last]
+    }
+
+    fn from_bytes(b: &[u8]) -> Sender {
+        Sender {
+            held: Record {
+                case: Known::from_bytes(&b[..1]),
+                column: Column::from_bytes(&b[1..3]),
+            },
+            last: Last::from_bytes(&b[3..]),
+        }
+    }
+}
