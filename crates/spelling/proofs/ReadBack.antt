@@ -17,7 +17,7 @@ use Rattle.step.proofs.Stays.{sound_parts}
 use Rattle.spelling.specs.Names.{Calling, Motor, State}
 use Rattle.spelling.specs.Spelling.{string_bytes, heard_bytes, signal_bytes, signals_bytes, spelt, column_of, stage_of, word_at, signals_of, run_of, state_of, spells, part}
 use Rattle.spelling.proofs.Parts.{eight, eight_heard, forty, two_run, four, laid}
-use Rattle.spelling.specs.Back.{Has, two, case_back, known_back, last_back, column_back, stage_back, run_back, all}
+use Rattle.spelling.specs.Back.{Has, two, case_back, known_back, column_back, stage_back, run_back, all}
 use Rattle.laws.proofs.Both.{both}
 use Rattle.laws.proofs.Same.{same_self}
 use Rattle.spelling.proofs.Same.{its_spelling}
@@ -52,7 +52,7 @@ state_back s h =
     go (string_bytes s.settings) _ _ _ (heard_bytes m) (signals_bytes k) (eight s.settings) (two l) (four g) (two_run m.run) (eight_heard m) (forty k) (bytes_back s.settings.string h.word) (column_back l) (stage_back g) (run_back m.run h.run) (bytes_back m.heard h.heard) (signals_back k h.five h.words) (all _ 7 h.seven) (all _ 11 h.eleven)
   where
     go : (x y z r v w : List ℕ) → Has 8 x → Has 2 y → Has 4 z → Has 2 r → Has 8 v → Has 40 w → word_at x 0 ≡ s.settings.string → column_of (get_or y 0 0) (get_or y 1 0) ≡ s.sender.held.column → stage_of (get_or z 0 0) (get_or z 1 0) (get_or z 2 0) (get_or z 3 0) ≡ s.reader.stage → run_of (get_or r 0 0) (get_or r 1 0) ≡ s.motor.run → word_at v 0 ≡ s.motor.heard → signals_of w 0 ≡ s.calling.strings → part s.settings.values 0 7 ≡ s.settings.values → part s.reader.values 0 11 ≡ s.reader.values → state_of (laid s x y z r v w) ≡ s
-    go x y z r v w e f g i j k n q t o p u a b = rw (← e, ← f, ← g, ← i, ← j, ← k) (simp (n, q, t, o, p, u, a, b, known_back, last_back, case_back))
+    go x y z r v w e f g i j k n q t o p u a b = rw (← e, ← f, ← g, ← i, ← j, ← k) (simp (n, q, t, o, p, u, a, b, known_back, case_back))
 
 -- a state of the box's form, spelt and read back
 pub read_back : (s : State) → Formed s → (spells (spelt s) ≡ true) × (state_of (spelt s) ≡ s)

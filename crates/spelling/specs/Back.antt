@@ -10,10 +10,7 @@ use borrow.Author.Tests.{leb-true, ne_eqb}
 use lib.Dec.{eqb}
 use lib.ListN.{get_or, length}
 use Rattle.motor.specs.Motor.{sound_run}
-use Rattle.spelling.specs.Names.{Case, Letters, Figures, Verb, Write, Read, Other, Form, Empty, Digits, Ex, Stage, Text, Swallow, Held, Begun, Lettered, Typed, Fields, Discard, Known, Is, Column, At, Last, Shift, Run, Off, Called, On, Sender}
-use Rattle.spelling.specs.Names.known
-use Rattle.spelling.specs.Names.column
-use Rattle.spelling.specs.Names.last
+use Rattle.spelling.specs.Names.{Case, Letters, Figures, Verb, Write, Read, Other, Form, Empty, Digits, Ex, Stage, Text, Swallow, Held, Begun, Lettered, Typed, Fields, Discard, Run, Off, Called, On, Sender, Option, Some, None}
 use Rattle.spelling.specs.Spelling.{part, sender_bytes, bit, case_byte, known_byte, last_byte, verb_byte, form_byte, column_bytes, stage_bytes, run_bytes, case_of, known_of, last_of, verb_of, form_of, column_of, stage_of, run_of}
 
 bit_back : (b : Bool) → eqb (bit b) 1 ≡ b
@@ -24,27 +21,22 @@ pub case_back : (c : Case) → case_of (case_byte c) ≡ c
 case_back Letters = refl
 case_back Figures = refl
 
-pub known_back : (k : Known) → known_of (known_byte k) ≡ k
-known_back known.Unknown = refl
-known_back (Is Letters) = refl
-known_back (Is Figures) = refl
+pub known_back : (k : Option Case) → known_of (known_byte k) ≡ k
+known_back None = refl
+known_back (Some Letters) = refl
+known_back (Some Figures) = refl
 
-pub last_back : (l : Last) → last_of (last_byte l) ≡ l
-last_back last.Other = refl
-last_back (Shift Letters) = refl
-last_back (Shift Figures) = refl
-
-pub column_back : (c : Column) → column_of (get_or (column_bytes c) 0 0) (get_or (column_bytes c) 1 0) ≡ c
-column_back column.Unknown = refl
-column_back (At n) = refl
+pub column_back : (c : Option ℕ) → column_of (get_or (column_bytes c) 0 0) (get_or (column_bytes c) 1 0) ≡ c
+column_back None = refl
+column_back (Some n) = refl
 
 -- so many bytes
 abbrev pub Has : ℕ → List ℕ → Type 0
 Has n xs = part xs 0 n ≡ xs
 
-pub two : (c : Column) → Has 2 (column_bytes c)
-two column.Unknown = refl
-two (At n) = refl
+pub two : (c : Option ℕ) → Has 2 (column_bytes c)
+two None = refl
+two (Some n) = refl
 
 pub verb_back : (v : Verb) → verb_of (verb_byte v) ≡ v
 verb_back Write = refl
@@ -80,7 +72,7 @@ pub sender_back : (x : Sender) → record { held = record { case = known_of (get
 sender_back x = go (column_bytes x.held.column) (two x.held.column) (column_back x.held.column)
   where
     go : (y : List ℕ) → Has 2 y → column_of (get_or y 0 0) (get_or y 1 0) ≡ x.held.column → record { held = record { case = known_of (known_byte x.held.case); column = column_of (get_or (y ++ last_byte x.last ∷ []) 0 0) (get_or (y ++ last_byte x.last ∷ []) 1 0) }; last = last_of (get_or (y ++ last_byte x.last ∷ []) 2 0) } ≡ x
-    go y e f = rw (← e) (simp (f, known_back, last_back))
+    go y e f = rw (← e) (simp (f, known_back))
 
 -- a list is its part from 0 on, as long as it is
 tail : (x : ℕ) (xs : List ℕ) (i n : ℕ) → part (x ∷ xs) (suc i) n ≡ part xs i n

@@ -1,4 +1,5 @@
 -- The names of src/ and of the crates below, for one `use` line.
+pub use Rattle.std.specs.Prelude.{Option, Some, None}
 pub use Rattle.code.specs.declared.Case.{Case}
 pub use Rattle.code.specs.declared.Case.TheVariants.{Letters, Figures}
 pub use Rattle.command.specs.declared.Verb.{Verb}
@@ -11,15 +12,6 @@ pub use Rattle.command.specs.declared.Reader.{Reader}
 pub use Rattle.settings.specs.declared.Settings.{Settings}
 pub use Rattle.settings.specs.declared.Connection.{Connection}
 pub use Rattle.settings.specs.declared.Calling.{Calling}
-pub use Rattle.sender.specs.declared.Known.{Known}
-pub use Rattle.sender.specs.declared.Known.TheVariants.{Is}
-pub use Rattle.sender.specs.declared.Known.TheVariants as known
-pub use Rattle.sender.specs.declared.Column.{Column}
-pub use Rattle.sender.specs.declared.Column.TheVariants.{At}
-pub use Rattle.sender.specs.declared.Column.TheVariants as column
-pub use Rattle.sender.specs.declared.Last.{Last}
-pub use Rattle.sender.specs.declared.Last.TheVariants.{Shift}
-pub use Rattle.sender.specs.declared.Last.TheVariants as last
 pub use Rattle.sender.specs.declared.Sender.{Sender}
 pub use Rattle.motor.specs.declared.Run.{Run}
 pub use Rattle.motor.specs.declared.Run.TheVariants.{Off, Called, On}

@@ -2,10 +2,7 @@
 use Rattle.std.specs.Prelude.{ℕ, zero, suc, ◌+◌, ◌-◌, ◌%◌, Bool, true, false, cond, List, [], ◌∷◌, ◌++◌, eqb, get_or, set, replicate}
 use Rattle.laws.specs.Same.{same}
 use Rattle.word.specs.Word.{number_by, bytes_of}
-use Rattle.spelling.specs.Names.{Case, Letters, Figures, Verb, Write, Read, Other, Form, Empty, Digits, Ex, Stage, Text, Swallow, Held, Begun, Lettered, Typed, Fields, Discard, Reader, Settings, Connection, Calling, Known, Is, Column, At, Last, Shift, Sender, Run, Off, Called, On, Motor, State}
-use Rattle.spelling.specs.Names.known
-use Rattle.spelling.specs.Names.column
-use Rattle.spelling.specs.Names.last
+use Rattle.spelling.specs.Names.{Case, Letters, Figures, Verb, Write, Read, Other, Form, Empty, Digits, Ex, Stage, Text, Swallow, Held, Begun, Lettered, Typed, Fields, Discard, Reader, Settings, Connection, Calling, Sender, Run, Off, Called, On, Motor, State, Option, Some, None}
 
 -- n elements from place i on
 abbrev pub part : List ℕ → ℕ → ℕ → List ℕ
@@ -22,13 +19,12 @@ abbrev pub case_byte : Case → ℕ
 case_byte Letters = 1
 case_byte Figures = 2
 
-abbrev pub known_byte : Known → ℕ
-known_byte known.Unknown = 0
-known_byte (Is case) = case_byte case
+abbrev pub known_byte : Option Case → ℕ
+known_byte None = 0
+known_byte (Some case) = case_byte case
 
-abbrev pub last_byte : Last → ℕ
-last_byte last.Other = 0
-last_byte (Shift case) = case_byte case
+abbrev pub last_byte : Option Case → ℕ
+last_byte shift = known_byte shift
 
 abbrev pub verb_byte : Verb → ℕ
 verb_byte Other = 0
@@ -58,9 +54,9 @@ abbrev pub connection_bytes : Connection → List ℕ
 connection_bytes c = c.mode ∷ c.port ∷ c.speed ∷ []
 
 -- 18 and 19: whether the column is known, and the column
-abbrev pub column_bytes : Column → List ℕ
-column_bytes column.Unknown = 0 ∷ 0 ∷ []
-column_bytes (At n) = 1 ∷ n ∷ []
+abbrev pub column_bytes : Option ℕ → List ℕ
+column_bytes None = 0 ∷ 0 ∷ []
+column_bytes (Some n) = 1 ∷ n ∷ []
 
 -- 17 to 20: the record, and the last item
 abbrev pub sender_bytes : Sender → List ℕ
@@ -116,14 +112,14 @@ spelt s = sets_at (besides s) offsets 0 s.settings.values
 abbrev pub case_of : ℕ → Case
 case_of n = cond (eqb n 1) Letters Figures
 
-abbrev pub known_of : ℕ → Known
-known_of n = cond (eqb n 0) known.Unknown (Is (case_of n))
+abbrev pub known_of : ℕ → Option Case
+known_of n = cond (eqb n 0) None (Some (case_of n))
 
-abbrev pub column_of : ℕ → ℕ → Column
-column_of is n = cond (eqb is 1) (At n) column.Unknown
+abbrev pub column_of : ℕ → ℕ → Option ℕ
+column_of is n = cond (eqb is 1) (Some n) None
 
-abbrev pub last_of : ℕ → Last
-last_of n = cond (eqb n 0) last.Other (Shift (case_of n))
+abbrev pub last_of : ℕ → Option Case
+last_of n = known_of n
 
 abbrev pub verb_of : ℕ → Verb
 verb_of n = cond (eqb n 1) Write (cond (eqb n 2) Read Other)

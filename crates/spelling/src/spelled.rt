@@ -4,12 +4,12 @@ ghost use Rattle.word.specs.Word.{bytes_of, number_by};
 ghost use Rattle.motor.specs.Motor.{sound_run};
 ghost use Rattle.spelling.specs.Spelling.{case_byte, case_of, column_bytes, column_of, connection_bytes, form_byte, form_of, known_byte, known_of, last_byte, last_of, part, puts, run_bytes, run_of, sender_bytes, stage_bytes, stage_of, verb_byte, verb_of};
 ghost use Rattle.word.proofs.Words.{bytes_back};
-ghost use Rattle.spelling.specs.Back.{case_back, known_back, last_back, column_back, verb_back, form_back, stage_back, run_back, sender_back, all};
+ghost use Rattle.spelling.specs.Back.{case_back, known_back, column_back, verb_back, form_back, stage_back, run_back, sender_back, all};
 
 use code::Case;
 use command::{Form, Stage, Verb};
 use motor::Run;
-use sender::{Column, Known, Last, Record, Sender};
+use sender::{Record, Sender};
 use settings::Connection;
 
 // A part that is spelt as N bytes.
@@ -127,8 +127,8 @@ impl Spelled<1> for Form {
     }
 }
 
-// The case that the record has: 0 unknown.
-impl Spelled<1> for Known {
+// The case that the record has, or the shift that the last item was: 0 unknown, or any other item or none.
+impl Spelled<1> for Option<Case> {
     ghost bytes = { λ k. known_byte k ∷ [] };
 
     ghost of = { λ b. known_of (get_or b 0 0) };
@@ -139,46 +139,21 @@ impl Spelled<1> for Known {
 
     fn to_bytes(self) -> [u8; 1] {
         match self {
-            Known::Unknown => [0],
-            Known::Is(c) => c.to_bytes(),
+            None => [0],
+            Some(case) => case.to_bytes(),
         }
     }
 
-    fn from_bytes(b: &[u8]) -> Known {
+    fn from_bytes(b: &[u8]) -> Option<Case> {
         match b[0] {
-            0 => Known::Unknown,
-            _ => Known::Is(Case::from_bytes(b)),
-        }
-    }
-}
-
-// The last item: 0 any other or none.
-impl Spelled<1> for Last {
-    ghost bytes = { λ k. last_byte k ∷ [] };
-
-    ghost of = { λ b. last_of (get_or b 0 0) };
-
-    ghost formed = { λ _. Unit {0} };
-
-    ghost back = { λ k _. last_back k };
-
-    fn to_bytes(self) -> [u8; 1] {
-        match self {
-            Last::Other => [0],
-            Last::Shift(c) => c.to_bytes(),
-        }
-    }
-
-    fn from_bytes(b: &[u8]) -> Last {
-        match b[0] {
-            0 => Last::Other,
-            _ => Last::Shift(Case::from_bytes(b)),
+            0 => None,
+            _ => Some(Case::from_bytes(b)),
         }
     }
 }
 
 // Whether the column is known, and the column.
-impl Spelled<2> for Column {
+impl Spelled<2> for Option<u8> {
     ghost bytes = { column_bytes };
 
     ghost of = { λ b. column_of (get_or b 0 0) (get_or b 1 0) };
@@ -189,15 +164,15 @@ impl Spelled<2> for Column {
 
     fn to_bytes(self) -> [u8; 2] {
         match self {
-            Column::Unknown => [0, 0],
-            Column::At(n) => [1, n],
+            None => [0, 0],
+            Some(n) => [1, n],
         }
     }
 
-    fn from_bytes(b: &[u8]) -> Column {
+    fn from_bytes(b: &[u8]) -> Option<u8> {
         match b[0] {
-            1 => Column::At(b[1]),
-            _ => Column::Unknown,
+            1 => Some(b[1]),
+            _ => None,
         }
     }
 }
@@ -358,10 +333,10 @@ impl Spelled<4> for Sender {
     fn from_bytes(b: &[u8]) -> Sender {
         Sender {
             held: Record {
-                case: Known::from_bytes(&b[..1]),
-                column: Column::from_bytes(&b[1..3]),
+                case: Option::from_bytes(&b[..1]),
+                column: Option::from_bytes(&b[1..3]),
             },
-            last: Last::from_bytes(&b[3..]),
+            last: Option::from_bytes(&b[3..]),
         }
     }
 }
