@@ -4,7 +4,10 @@ use Prim.Native.Nat.{ℕ}
 use mathlib.Core.Path.{◌≡◌, refl, sym, ap, subst}
 use mathlib.Core.Bool.{Bool, true, false, cond, ◌&&◌, false≢true}
 use mathlib.Core.List.{List, [], ◌∷◌}
+use Rattle.std.specs.Prelude.{Some}
+use Rattle.std.specs.Bool.{then_some}
 use Rattle.laws.proofs.Both.{both}
+use Rattle.step.specs.declared.State.{State}
 use Rattle.step.specs.State.{sound}
 use Rattle.linebox.specs.Call.{Done, Told, taking, stopped, number_of}
 use Rattle.linebox.specs.Call.{Calls}
@@ -15,6 +18,14 @@ use Rattle.board.specs.Calls.{spells_sound, asked, Boards}
 -- bytes that spell a sound state spell a state that is sound
 pub the_sound : (b : List ℕ) → spells_sound b ≡ true → sound (state_of b) ≡ true
 the_sound b h = (both (spells b) (sound (state_of b)) h).1
+
+-- what is opened is the state that they spell
+pub opened : (b : List ℕ) (s : State) → Some s ≡ then_some (spells_sound b) (state_of b) → (spells_sound b ≡ true) × (s ≡ state_of b)
+opened b s = go (spells_sound b)
+  where
+    go : (x : Bool) → Some s ≡ then_some x (state_of b) → (x ≡ true) × (s ≡ state_of b)
+    go true h = (refl, cc)
+    go false h = cc
 
 module _ (t : Stream) (b xs : List ℕ) (n m : ℕ) where
   -- answer 3 comes before all
@@ -41,12 +52,6 @@ module _ (t : Stream) (b xs : List ℕ) (n m : ℕ) where
       go true true h = refl
       go true false h = absurd (false≢true h)
       go false y h = absurd (false≢true h)
-
-  -- any other bytes
-  pub refused : (old₁ old₂ : List ℕ) → spells_sound b ≡ false → Boards b (asked t b xs n m) old₁ old₂ b old₁ old₂ (0 ∷ 0 ∷ 0 ∷ []) 3
-  refused old₁ old₂ h =
-      subst (λ (d : Done). Boards b d old₁ old₂ b old₁ old₂ (0 ∷ 0 ∷ 0 ∷ []) 3) (sym (three h))
-      (record { answer = refl; bytes = rw h; told = refl; one = refl; two = refl })
 
   -- bytes that spell a sound state: the box's own call is told
   pub boarded : (old₁ old₂ now₁ now₂ : List ℕ) (r : Called) → spells_sound b ≡ true → Calls (taking t (state_of b) xs n m) old₁ old₂ now₁ now₂ r → Boards b (asked t b xs n m) old₁ old₂ (spelt r.state) now₁ now₂ (r.taken ∷ r.first ∷ r.second ∷ []) (number_of r.answer)

@@ -4,6 +4,4 @@ use Rattle.board.proofs.open_state.Goals as goal
 
 pub returns : goal.returns
 unfolding spells
-returns c =
-    let e = c.state_of-state.ensures in
-    (rw (c.is_spelling.ensures, c.is_sound.ensures, e), e)
+returns c = rw (c.then_some.ensures, c.is_spelling.ensures, c.is_sound.ensures, c.state_of-state.ensures)
