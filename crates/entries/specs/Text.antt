@@ -1,13 +1,13 @@
 -- The text of a vector.
-use Rattle.std.specs.Prelude.{ℕ, zero, suc, ◌+◌, ◌*◌, ◌-◌, ◌%◌, cond, List, [], ◌∷◌, eqb, ltb, get_or, take, drop}
+use Rattle.std.specs.Prelude.{ℕ, zero, suc, ◌+◌, ◌*◌, ◌-◌, ◌%◌, cond, List, [], ◌∷◌, eqb, ltb, get_or, take, drop, ◌==◌}
+use Rattle.std.specs.List.{position_or_len}
 use Rattle.entries.specs.declared.text.Form.{Form}
 use Rattle.entries.specs.declared.text.Form.TheVariants.{Escaped, Decimal}
 use Rattle.entries.specs.declared.text.Piece.{Piece}
 
 -- where a byte first stands, or the length where it stands nowhere
 abbrev pub index_of : ℕ → List ℕ → ℕ
-index_of x [] = 0
-index_of x (y ∷ ys) = cond (eqb x y) 0 (suc (index_of x ys))
+index_of x s = position_or_len (λ y. y == x) s
 
 -- what stands before the first bar, or all where there is none
 abbrev pub before_bar : List ℕ → List ℕ

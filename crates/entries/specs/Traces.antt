@@ -1,5 +1,5 @@
 -- What the calls of the traced lines start with.
-use Rattle.std.specs.Prelude.{ℕ, Bool, true, false, List, get_or, replicate}
+use Rattle.std.specs.Prelude.{ℕ, Bool, List, get_or, replicate, Some, None}
 use Rattle.laws.specs.Written.{fronted}
 use Rattle.settings.specs.Command.{kept, with_value}
 use Rattle.step.specs.declared.State.{State}
@@ -10,7 +10,6 @@ use Rattle.entries.specs.declared.text.Form.{Form}
 use Rattle.entries.specs.declared.text.Form.TheVariants.{Escaped, Decimal}
 use Rattle.entries.specs.declared.traces.Start.{Start}
 use Rattle.entries.specs.declared.traces.Ran.{Ran}
-use Rattle.entries.specs.declared.traces.Verdict.TheVariants.{Other, Same, Differs}
 use Rattle.entries.specs.Text.{before_bar, after_bar, decoded}
 
 -- a box with ample room
@@ -19,12 +18,11 @@ ready state = record { state = state; first = 255; second = 255; from = 0 }
 
 -- the box after a vector that is as expected, or differs
 abbrev pub judged : Bool → State → Ran
-judged true state = record { verdict = Same; next = ready state }
-judged false state = record { verdict = Differs; next = ready state }
+judged same state = record { same = Some same; next = ready state }
 
 -- a line that is no vector
 abbrev pub prepared : Start → Ran
-prepared b = record { verdict = Other; next = b }
+prepared b = record { same = None; next = b }
 
 -- what a stream takes: host bytes, or codes
 abbrev pub form_taken : Stream → Form

@@ -6,19 +6,18 @@ ghost use Rattle.entries.specs.Tables.{hex_at, ascii_holds, ustty_holds, entry};
 use crate::text::{byte_at, hex};
 use code::{Case, Conversion};
 
-// What a line of the input is: an entry of a table, and whether it is as the paper has it.
+// An entry of a table, and whether it is as the paper has it.
 #[derive(Clone, Copy)]
 pub enum Entry {
     Ascii(bool),
     Ustty(bool),
-    Other,
 }
 
 // The value of the two hexadecimal digits at a place.
 fn hex_at(s: &[u8], at: u8) -> u8
     ensures { result ≡ hex_at s.now at }
 {
-    let i = at as usize;
+    let i = usize::from(at);
     hex(byte_at(s, i), byte_at(s, i + 1))
 }
 
@@ -29,10 +28,8 @@ fn mark_of(x: Conversion) -> u8
     match x {
         Conversion::Nothing => b'-',
         Conversion::Free(_) => b'N',
-        Conversion::Cased(case, _) => match case {
-            Case::Letters => b'L',
-            Case::Figures => b'F',
-        },
+        Conversion::Cased(Case::Letters, _) => b'L',
+        Conversion::Cased(Case::Figures, _) => b'F',
     }
 }
 
@@ -42,8 +39,7 @@ fn code_of(x: Conversion) -> u8
 {
     match x {
         Conversion::Nothing => 0,
-        Conversion::Free(c) => c,
-        Conversion::Cased(_, c) => c,
+        Conversion::Free(c) | Conversion::Cased(_, c) => c,
     }
 }
 
@@ -52,10 +48,7 @@ fn ascii_holds(s: &[u8]) -> bool
     ensures { result ≡ ascii_holds s.now }
 {
     let x = convert::convert(hex_at(s, 4));
-    if mark_of(x) != byte_at(s, 7) {
-        return false;
-    }
-    code_of(x) == hex_at(s, 11)
+    mark_of(x) == byte_at(s, 7) && code_of(x) == hex_at(s, 11)
 }
 
 // Whether a line as `U 0x03 0x41 0x2D` is as the two rows have it.
@@ -63,22 +56,17 @@ fn ustty_holds(s: &[u8]) -> bool
     ensures { result ≡ ustty_holds s.now }
 {
     let c = hex_at(s, 4);
-    if code::row_at(Case::Letters, c) != hex_at(s, 9) {
-        return false;
-    }
-    code::row_at(Case::Figures, c) == hex_at(s, 14)
+    code::row_at(Case::Letters, c) == hex_at(s, 9)
+        && code::row_at(Case::Figures, c) == hex_at(s, 14)
 }
 
-// One line run through the conversions.
-pub fn run_entry(s: &[u8]) -> Entry
+// One line run through the conversions, if it is an entry of a table.
+pub fn run_entry(s: &[u8]) -> Option<Entry>
     ensures { result ≡ entry s.now }
 {
-    let kind = byte_at(s, 0);
-    if kind == b'A' {
-        return Entry::Ascii(ascii_holds(s));
+    match byte_at(s, 0) {
+        b'A' => Some(Entry::Ascii(ascii_holds(s))),
+        b'U' => Some(Entry::Ustty(ustty_holds(s))),
+        _ => None,
     }
-    if kind == b'U' {
-        return Entry::Ustty(ustty_holds(s));
-    }
-    Entry::Other
 }

@@ -1,5 +1,5 @@
 // The text of a vector: fields with a bar after each, bytes with escapes, and numbers.
-ghost use Rattle.std.specs.Prelude.{◌≡◌, ◌+◌, ◌*◌, ◌%◌, ◌≤◌, ◌<◌, length, get_or, take};
+ghost use Rattle.std.specs.Prelude.{◌≡◌, ◌+◌, ◌*◌, ◌%◌, ◌≤◌, ◌<◌, length, get_or, take, drop};
 ghost use Rattle.laws.specs.Written.{fronted};
 ghost use Rattle.entries.specs.Text.{index_of, before_bar, after_bar, digit, hex, escaped, decimal, first_piece, decoded};
 
@@ -21,23 +21,18 @@ pub struct Piece {
 pub fn byte_at(s: &[u8], at: usize) -> u8
     ensures { result ≡ get_or s.now at 0 }
 {
-    if at < s.len() { s[at] } else { 0 }
+    s.get(at).copied().unwrap_or(0)
 }
 
 // The value of a hexadecimal digit, 0 where it is none.
 fn digit(x: u8) -> u8
     ensures { (result < 16) × (result ≡ digit x) }
 {
-    if x < 48 {
-        return 0;
+    match x {
+        b'0'..=b'9' => x - b'0',
+        b'A'..=b'F' => x - b'A' + 10,
+        _ => 0,
     }
-    if x < 58 {
-        return x - 48;
-    }
-    if x < 65 {
-        return 0;
-    }
-    if x < 71 { x - 55 } else { 0 }
 }
 
 // The value of two hexadecimal digits.
@@ -51,35 +46,35 @@ pub fn hex(high: u8, low: u8) -> u8
 pub fn front(s: &[u8], n: usize) -> &[u8]
     ensures { result.now ≡ take n s.now }
 {
-    if n <= s.len() { &s[0..n] } else { s }
+    s.get(..n).unwrap_or(s)
+}
+
+// What comes after the first n bytes, or nothing where there are fewer.
+fn past(s: &[u8], n: usize) -> &[u8]
+    ensures { result.now ≡ drop n s.now }
+{
+    s.get(n..).unwrap_or(&[])
 }
 
 // Where a byte first stands, or the length where it stands nowhere.
 pub fn find(s: &[u8], x: u8) -> usize
     ensures { (result ≤ length s.now) × (result ≡ index_of x s.now) }
 {
-    let mut at = 0;
-    while at < s.len() && s[at] != x {
-        at += 1;
-    }
-    at
+    s.iter().position(|y| *y == x).unwrap_or(s.len())
 }
 
 // What stands before the first bar, or all where there is none.
 pub fn before_bar(s: &[u8]) -> &[u8]
     ensures { result.now ≡ before_bar s.now }
 {
-    let at = find(s, b'|');
-    &s[0..at]
+    &s[..find(s, b'|')]
 }
 
 // What stands after the first bar, or nothing where there is none.
 pub fn after_bar(s: &[u8]) -> &[u8]
     ensures { result.now ≡ after_bar s.now }
 {
-    let n = s.len();
-    let at = find(s, b'|');
-    if at < n { &s[at + 1..n] } else { &s[0..0] }
+    past(s, find(s, b'|') + 1)
 }
 
 // The last eight bits of a number of three digits.
@@ -87,7 +82,7 @@ fn three(a: u8, b: u8, c: u8) -> u8
     requires { (a < 16) × (b < 16) × (c < 16) }
     ensures { result ≡ (a * 100 + b * 10 + c) % 256 }
 {
-    let n = a as u32 * 100 + b as u32 * 10 + c as u32;
+    let n = u32::from(a) * 100 + u32::from(b) * 10 + u32::from(c);
     (n % 256) as u8
 }
 
@@ -98,13 +93,13 @@ fn decimal(s: &[u8]) -> Piece
     let x = byte_at(s, 1);
     let y = byte_at(s, 2);
     let z = byte_at(s, 3);
-    if y < 48 {
+    if y < b'0' {
         return Piece {
             byte: digit(x),
             width: 2,
         };
     }
-    if z < 48 {
+    if z < b'0' {
         return Piece {
             byte: digit(x) * 10 + digit(y),
             width: 3,
@@ -120,26 +115,25 @@ fn decimal(s: &[u8]) -> Piece
 fn escaped(s: &[u8]) -> Piece
     ensures { (1 ≤ result.width) × (result.width ≤ 4) × (result ≡ escaped s.now) }
 {
-    if byte_at(s, 0) != 92 {
-        return Piece {
-            byte: byte_at(s, 0),
-            width: 1,
-        };
+    let x = byte_at(s, 0);
+    if x != b'\\' {
+        return Piece { byte: x, width: 1 };
     }
-    let x = byte_at(s, 1);
-    if x == 114 {
-        return Piece { byte: 13, width: 2 };
-    }
-    if x == 110 {
-        return Piece { byte: 10, width: 2 };
-    }
-    if x == 120 {
-        return Piece {
+    match byte_at(s, 1) {
+        b'r' => Piece {
+            byte: b'\r',
+            width: 2,
+        },
+        b'n' => Piece {
+            byte: b'\n',
+            width: 2,
+        },
+        b'x' => Piece {
             byte: hex(byte_at(s, 2), byte_at(s, 3)),
             width: 4,
-        };
+        },
+        y => Piece { byte: y, width: 2 },
     }
-    Piece { byte: x, width: 2 }
 }
 
 // The first byte in a form.
@@ -156,13 +150,14 @@ fn first_piece(form: Form, s: &[u8]) -> Piece
 pub fn decode(form: Form, s: &[u8], out: &mut [u8]) -> usize
     ensures { (result ≡ length (decoded form s.now (length out.old))) × (out.new ≡ fronted out.old (decoded form s.now (length out.old))) }
 {
-    let mut i = 0;
-    let mut k = 0;
-    while i < s.len() && k < out.len() {
-        let p = first_piece(form, &s[i..]);
-        out[k] = p.byte;
-        k += 1;
-        i += p.width;
+    let mut rest = s;
+    for (k, place) in out.iter_mut().enumerate() {
+        if rest.is_empty() {
+            return k;
+        }
+        let p = first_piece(form, rest);
+        *place = p.byte;
+        rest = past(rest, p.width);
     }
-    k
+    out.len()
 }

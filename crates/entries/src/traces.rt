@@ -16,18 +16,10 @@ pub struct Start {
     pub from: u8,
 }
 
-// What a line is: no vector, or one that is as expected or differs.
-#[derive(Clone, Copy)]
-pub enum Verdict {
-    Other,
-    Same,
-    Differs,
-}
-
-// What a line is, and what the next one starts with.
+// Whether a line is as expected, if it is a vector, and what the next one starts with.
 #[derive(Clone, Copy)]
 pub struct Ran {
-    pub verdict: Verdict,
+    pub same: Option<bool>,
     pub next: Start,
 }
 
@@ -47,14 +39,8 @@ pub fn ready(state: State) -> Start
 pub fn judged(same: bool, state: State) -> Ran
     ensures { result ≡ judged same state }
 {
-    if same {
-        return Ran {
-            verdict: Verdict::Same,
-            next: ready(state),
-        };
-    }
     Ran {
-        verdict: Verdict::Differs,
+        same: Some(same),
         next: ready(state),
     }
 }
@@ -64,70 +50,71 @@ pub fn prepared(b: Start) -> Ran
     ensures { result ≡ prepared b }
 {
     Ran {
-        verdict: Verdict::Other,
+        same: None,
         next: b,
     }
 }
 
-// How the text of a vector has what a stream takes.
-pub fn form_taken(t: Stream) -> Form
-    ensures { result ≡ form_taken t }
-{
-    match t {
-        Stream::Host => Form::Escaped,
-        Stream::Line => Form::Decimal,
-        Stream::Tu => Form::Decimal,
+impl Form {
+    // How the text of a vector has what a stream takes.
+    pub fn taken(t: Stream) -> Form
+        ensures { result ≡ form_taken t }
+    {
+        match t {
+            Stream::Host => Form::Escaped,
+            Stream::Line | Stream::Tu => Form::Decimal,
+        }
+    }
+
+    // How it has what the call puts into the first buffer.
+    pub fn first(t: Stream) -> Form
+        ensures { result ≡ form_first t }
+    {
+        match t {
+            Stream::Line => Form::Escaped,
+            Stream::Host | Stream::Tu => Form::Decimal,
+        }
+    }
+
+    // How it has what the call puts into the second buffer.
+    pub fn second(t: Stream) -> Form
+        ensures { result ≡ form_second t }
+    {
+        match t {
+            Stream::Line => Form::Decimal,
+            Stream::Host | Stream::Tu => Form::Escaped,
+        }
     }
 }
 
-// How it has what the call puts into the first buffer.
-pub fn form_first(t: Stream) -> Form
-    ensures { result ≡ form_first t }
-{
-    match t {
-        Stream::Host => Form::Decimal,
-        Stream::Line => Form::Escaped,
-        Stream::Tu => Form::Decimal,
+impl Start {
+    // `R|rooms and count|`: what the next call lends and starts from.
+    pub fn lending(self, s: &[u8]) -> Start
+        ensures { result ≡ lending self s.now }
+    {
+        let mut out = [0u8; 3];
+        decode(Form::Decimal, before_bar(after_bar(s)), &mut out);
+        let [first, second, from] = out;
+        Start {
+            first,
+            second,
+            from,
+            ..self
+        }
     }
-}
 
-// How it has what the call puts into the second buffer.
-pub fn form_second(t: Stream) -> Form
-    ensures { result ≡ form_second t }
-{
-    match t {
-        Stream::Host => Form::Escaped,
-        Stream::Line => Form::Decimal,
-        Stream::Tu => Form::Escaped,
+    // `Z|number|`: the box with that number in option 50, which has place 1, sound or not.
+    pub fn limited(self, s: &[u8]) -> Start
+        ensures { result ≡ limited self s.now }
+    {
+        let mut out = [0u8; 1];
+        decode(Form::Decimal, before_bar(after_bar(s)), &mut out);
+        let old = self.state;
+        let setup = Setup {
+            settings: old.settings.with_value(1, out[0]),
+            calling: old.calling,
+            connection: old.connection,
+        };
+        ready(with_stored(old, setup.keep()))
     }
-}
-
-// `R|rooms and count|`: what the next call lends and starts from.
-pub fn lending(b: Start, s: &[u8]) -> Start
-    ensures { result ≡ lending b s.now }
-{
-    let mut out = [0u8; 3];
-    decode(Form::Decimal, before_bar(after_bar(s)), &mut out);
-    let state = b.state;
-    Start {
-        state,
-        first: out[0],
-        second: out[1],
-        from: out[2],
-    }
-}
-
-// `Z|number|`: the box with that number in option 50, which has place 1, sound or not.
-pub fn limited(b: Start, s: &[u8]) -> Start
-    ensures { result ≡ limited b s.now }
-{
-    let mut out = [0u8; 1];
-    decode(Form::Decimal, before_bar(after_bar(s)), &mut out);
-    let old = b.state;
-    let setup = Setup {
-        settings: old.settings.with_value(1, out[0]),
-        calling: old.calling,
-        connection: old.connection,
-    };
-    ready(with_stored(old, setup.keep()))
 }
