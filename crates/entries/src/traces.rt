@@ -4,7 +4,6 @@ ghost use Rattle.entries.specs.Traces.{ready, judged, prepared, form_taken, form
 
 use crate::text::{Form, after_bar, before_bar, decode};
 use settings::Setup;
-use step::states::with_stored;
 use step::{State, Stream};
 
 // What the next call starts with: the box, the room of the two buffers that it lends, and the count taken so far.
@@ -115,6 +114,6 @@ impl Start {
             calling: old.calling,
             connection: old.connection,
         };
-        ready(with_stored(old, setup.keep()))
+        ready(old.with_stored(setup.keep()))
     }
 }
