@@ -31,16 +31,12 @@ pub enum Conversion {
     Cased(Case, u8),
 }
 
-// The letters. FIGS and LTRS stand as SO and SI.
-const LETTERS: [u8; 32] = [
+// The letters, then the figures. FIGS and LTRS stand as SO and SI.
+const ROWS: [u8; 64] = [
     0, b'E', 10, b'A', b' ', b'S', b'I', b'U', 13, b'D', b'R', b'J', b'N', b'F', b'C', b'K', b'T',
-    b'Z', b'L', b'W', b'H', b'Y', b'P', b'Q', b'O', b'B', b'G', 14, b'M', b'X', b'V', 15,
-];
-
-// The figures.
-const FIGURES: [u8; 32] = [
-    0, b'3', 10, b'-', b' ', 7, b'8', b'7', 13, b'$', b'4', b'\'', b',', b'!', b':', b'(', b'5',
-    b'"', b')', b'2', b'#', b'6', b'0', b'1', b'9', b'?', b'&', 14, b'.', b'/', b';', 15,
+    b'Z', b'L', b'W', b'H', b'Y', b'P', b'Q', b'O', b'B', b'G', 14, b'M', b'X', b'V', 15, 0, b'3',
+    10, b'-', b' ', 7, b'8', b'7', 13, b'$', b'4', b'\'', b',', b'!', b':', b'(', b'5', b'"', b')',
+    b'2', b'#', b'6', b'0', b'1', b'9', b'?', b'&', 14, b'.', b'/', b';', 15,
 ];
 
 // The character of a code in a case; over 31 there is none, and it reads as BLANK.
@@ -48,8 +44,8 @@ pub fn row_at(case: Case, c: u8) -> u8
     ensures { result ≡ row_at case c }
 {
     let row = match case {
-        Case::Letters => &LETTERS,
-        Case::Figures => &FIGURES,
+        Case::Letters => &ROWS[..32],
+        Case::Figures => &ROWS[32..],
     };
     row.get(usize::from(c)).copied().unwrap_or(0)
 }
@@ -58,10 +54,7 @@ pub fn row_at(case: Case, c: u8) -> u8
 pub fn rows() -> [u8; 64]
     ensures { result ≡ letters ++ figures }
 {
-    let mut rows = [0; 64];
-    rows[..32].copy_from_slice(&LETTERS);
-    rows[32..].copy_from_slice(&FIGURES);
-    rows
+    ROWS
 }
 
 // The kind of a code; over 31 it is as BLANK. 4 is space, 8 is CR, 27 is FIGS, 31 is LTRS, 0 is BLANK and 2 is LF; 5 is S and
