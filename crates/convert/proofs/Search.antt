@@ -9,13 +9,14 @@ use native.Mathlib.Nat.{add-zero, zero-add, add-suc, suc-add, le_of_suc-le-suc, 
 use lib.Dec.{eqb}
 use borrow.Author.Tests.{le-leb, lt-leb, eq-eqb, ne_eqb}
 use mathlib.Core.Logic.{inl, inr, ◌≢◌}
-use Rattle.std.proofs.Common.{Option}
+use Rattle.std.proofs.Common.{Option, Some, None}
+use Rattle.std.proofs.lemmas.Grind.{get_or_default_zero}
 use Rattle.std.specs.Char.{UppercasesTo}
 use Rattle.std.specs.List.{AllWithin, HoldsAt}
 use Rattle.std.specs.Option.{MatchOption, unwrap_or}
 use Rattle.std.proofs.lemmas.Iterator.{index_from_first}
 use native.Mathlib.Numerals.{add-one}
-use lib.ListN.{length}
+use lib.ListN.{length, get_or}
 use Rattle.code.specs.declared.Case.{Case}
 use Rattle.code.specs.declared.Case.TheVariants.{Letters, Figures}
 use Rattle.code.specs.declared.Conversion.{Conversion}
@@ -85,9 +86,15 @@ capital_of b x (inl (h, e)) = simp (le-leb 97 b h.0, le-leb b 122 h.1) (omega ar
 capital_of b x (inr (inl h, e)) = simp (lt-leb 97 b h) e
 capital_of b x (inr (inr h, e)) = simp (lt-leb b 122 h, and-false) e
 
-pub placed : (rows : List ℕ) (b x : ℕ) (r : Option ℕ) → rows ≡ letters ++ figures → UppercasesTo b x
-    → MatchOption r (AllWithin (λ y. y ≢ x) rows 0 (length rows)) (λ i. (i < length rows) × HoldsAt (λ y. y ≡ x) rows i × AllWithin (λ y. y ≢ x) rows 0 i)
-    → unwrap_or r (length rows) ≡ place_in (letters ++ figures) (capital b)
-placed rows b x r e u f =
-    let n = index_from_first (λ ys. place_in ys x) (λ y. y ≡ x) (λ y. y ≢ x) refl (λ y ys h. rw (eq-eqb y x h)) (λ y ys h. rw (ne_eqb y x h, add-one)) rows r f in
-    sym n ∙ rw (e, capital_of b x u)
+module _ (rows : List ℕ) (b x : ℕ) (e : rows ≡ letters ++ figures) (u : UppercasesTo b x) where
+  placed : (r : Option ℕ) → MatchOption r (AllWithin (λ y. y ≢ x) rows 0 (length rows)) (λ i. (i < length rows) × HoldsAt (λ y. y ≡ x) rows i × AllWithin (λ y. y ≢ x) rows 0 i)
+      → unwrap_or r (length rows) ≡ place_in (letters ++ figures) (capital b)
+  placed r f =
+      let n = index_from_first (λ ys. place_in ys x) (λ y. y ≡ x) (λ y. y ≢ x) refl (λ y ys h. rw (eq-eqb y x h)) (λ y ys h. rw (ne_eqb y x h, add-one)) rows r f in
+      sym n ∙ rw (e, capital_of b x u)
+
+  pub placed_at : (i : ℕ) → i < length rows → get_or rows i 0 ≡ x → AllWithin (λ y. y ≢ x) rows 0 i → i ≡ place_in (letters ++ figures) (capital b)
+  placed_at i l h n = placed (Some i) (l, λ d. get_or_default_zero rows i d l ∙ h, n)
+
+  pub placed_nowhere : AllWithin (λ y. y ≢ x) rows 0 (length rows) → length rows ≡ place_in (letters ++ figures) (capital b)
+  placed_nowhere n = placed None n

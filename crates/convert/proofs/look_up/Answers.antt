@@ -1,31 +1,23 @@
--- `convert::look_up` meets its contract: what is lent is the letters and then the figures, so the place of the capital is what the
--- search finds.
-use Rattle.std.proofs.Common.{◌≡◌, ◌++◌, length, unwrap_or, ◌≢◌, ◌∙◌, rules, tests}
-use Rattle.std.proofs.lemmas.Iterator.{IsFirst-from_position, YieldsList-from_slice}
-use Rattle.code.specs.Rows.{letters, figures}
-use Rattle.code.specs.Convert.{capital, place_in}
-use Rattle.convert.proofs.Search.{in_letters, in_figures, in_neither, placed}
+-- `convert::look_up` meets its contract. The invariant: the capital has not stood in the rows yet; so the place where the loop stops
+-- is what the search finds.
+use Rattle.std.proofs.Common.{length, ◌∙◌, rules, arith}
+use Rattle.convert.proofs.Search.{in_letters, in_figures, in_neither, placed_at, placed_nowhere}
 use Rattle.convert.proofs.look_up.Goals as goal
-use Rattle.convert.proofs.look_up.Goals.{After-position}
 
--- the place that is found is that of the capital in the letters and the figures
-first : (c : After-position) → unwrap_or c.position.result (length c.args.table.now) ≡ place_in (letters ++ figures) (capital c.args.b)
-first c =
-    let x = c.to_ascii_uppercase-capital.result in
-    placed c.args.table.now c.args.b x c.position.result c.requires.lent c.to_ascii_uppercase-capital.ensures.cases
-    (IsFirst-from_position _ _ c.position.result (λ y. y ≡ x) (λ y. y ≢ x) c.position.ensures.ran (YieldsList-from_slice c.args.table.now cc) (λ y q k. search (rules, tests)) (λ y q k. search (rules, tests)))
+pub returns-then-place-lt32 : goal.returns-then-place-lt32
+returns-then-place-lt32 c =
+    let l = c.loop-place in
+    let e = placed_at c.args.table.now c.args.b c.to_ascii_uppercase-capital.result c.requires.lent c.to_ascii_uppercase-capital.ensures.cases l.place c.loop-place-test.true c.if-x-capital.true l.invariant in
+    c.found.ensures ∙ in_letters c.args.b l.place e c.if-place-lt32.true
 
-pub returns-in-Some : goal.returns-in-Some
-returns-in-Some c =
-    let e = rw c.in-Some.is at (first (goal.at.returns-in-Some c).After-position) in
-    c.found.ensures ∙ in_letters c.args.b c.in-Some.place e c.if-place-lt32.true
+pub returns-else-place-lt32 : goal.returns-else-place-lt32
+returns-else-place-lt32 c =
+    let l = c.loop-place in
+    let e = placed_at c.args.table.now c.args.b c.to_ascii_uppercase-capital.result c.requires.lent c.to_ascii_uppercase-capital.ensures.cases l.place c.loop-place-test.true c.if-x-capital.true l.invariant in
+    c.found-else-place-lt32.ensures ∙ in_figures c.args.b l.place e c.if-place-lt32.false (search rules)
 
-pub returns-in-Some-2 : goal.returns-in-Some-2
-returns-in-Some-2 c =
-    let e = rw c.in-Some.is at (first (goal.at.returns-in-Some-2 c).After-position) in
-    c.found-in-Some-2.ensures ∙ in_figures c.args.b c.in-Some.place e c.if-place-lt32.false (search rules)
-
-pub returns-in-None : goal.returns-in-None
-returns-in-None c =
-    let e = rw c.in-None.is at (first (goal.at.returns-in-None c).After-position) in
-    in_neither c.args.b _ e (search rules)
+pub returns : goal.returns
+returns c =
+    let l = c.loop-place in
+    let e = placed_nowhere c.args.table.now c.args.b c.to_ascii_uppercase-capital.result c.requires.lent c.to_ascii_uppercase-capital.ensures.cases (λ k d z h. l.invariant k d z (omega arith)) in
+    in_neither c.args.b (length c.args.table.now) e (search rules)
