@@ -1,9 +1,0 @@
--- `command::within` meets its contract: its first test decides, or the second is left.
-use borrow.Author.Tests.{le-leb, lt-leb}
-use Rattle.command.proofs.within.Goals as goal
-
-pub returns-then-low-b : goal.returns-then-low-b
-returns-then-low-b c = simp (le-leb _ _ c.if-low-b.true)
-
-pub returns-else-low-b : goal.returns-else-low-b
-returns-else-low-b c = simp (lt-leb _ _ c.if-low-b.false)
