@@ -1,13 +1,13 @@
 // The motor: the last codes heard, held against the strings that start and stop it.
 #![tactic(auto)]
 
-ghost use Rattle.std.specs.Prelude.{◌≡◌, ◌≤◌};
-ghost use Rattle.motor.specs.Motor.{heard_with, size, latest, matches, comes, starts, later, while_on, while_off, turned, hearing, is_on, resting, sound_run, sound_motor};
+ghost use Rattle.std.specs.Prelude.{◌≡◌, ◌<◌, ◌≤◌};
+ghost use Rattle.motor.specs.Motor.{heard_with, size, latest, matches, signal, comes, starts, later, while_on, while_off, turned, hearing, is_on, resting, sound_run, sound_motor};
 
 use settings::Calling;
 
 // Whether it runs: off; off, and the first string 93 that counts ended so many codes ago, staying at 8; on.
-#[derive(Clone, Copy)]
+#[derive(Clone, Copy, PartialEq, Eq)]
 pub enum Run {
     Off,
     Called(u8),
@@ -19,6 +19,13 @@ pub enum Run {
 pub struct Motor {
     pub heard: u64,
     pub run: Run,
+}
+
+// How a station is called, and the last codes heard, against which its strings are held.
+#[derive(Clone, Copy)]
+struct Listener {
+    calling: Calling,
+    heard: u64,
 }
 
 // Off, and nothing heard.
@@ -35,7 +42,7 @@ pub fn resting() -> Motor
 fn heard_with(heard: u64, c: u8) -> u64
     ensures { result ≡ heard_with heard c }
 {
-    heard / 32 + 34359738368 * (c % 32) as u64
+    heard / 32 + 34359738368 * u64::from(c % 32)
 }
 
 // How many codes a string has.
@@ -43,28 +50,20 @@ fn size(string: u64) -> u8
     ensures { (result ≡ size string) × (result ≤ 8) }
 {
     let mut rest = string;
-    let mut n: u8 = 0;
-    while n < 8 {
+    for n in 0..8 {
         if rest == 0 {
             return n;
         }
-        rest = rest / 32;
-        n += 1;
+        rest /= 32;
     }
-    n
+    8
 }
 
 // The last n of the codes heard, at most eight.
 fn latest(heard: u64, n: u8) -> u64
     ensures { result ≡ latest n heard }
 {
-    let mut rest = heard;
-    let mut i = n;
-    while i < 8 {
-        rest = rest / 32;
-        i += 1;
-    }
-    rest
+    heard >> (5 * 8u8.saturating_sub(n))
 }
 
 // Whether the last codes heard are a string's; an empty string never matches.
@@ -74,82 +73,71 @@ fn matches(string: u64, heard: u64) -> bool
     (0 < string) & (latest(heard, size(string)) == string)
 }
 
-// Whether a string matches with all its codes among the last n.
-fn comes(string: u64, heard: u64, n: u8) -> bool
-    ensures { result ≡ comes string heard n }
-{
-    matches(string, heard) & (size(string) <= n)
-}
-
-// Whether a motor that is off starts: by the motor power mode, and n codes after the first string 93 that counts, 0 where there is none.
-fn starts(k: Calling, heard: u64, n: u8) -> bool
-    ensures { result ≡ starts k heard n }
-{
-    let strings = k.strings;
-    let power = k.power;
-    if power == 2 {
-        return matches(strings[0], heard);
-    }
-    if power == 4 {
-        return comes(strings[3], heard, n);
-    }
-    if power == 5 {
-        return comes(strings[4], heard, n);
-    }
-    if power == 6 {
-        return comes(strings[3], heard, n) | comes(strings[4], heard, n);
-    }
-    false
-}
-
 // One code later, staying at 8.
 fn later(n: u8) -> u8
     ensures { result ≡ later n }
 {
-    if n < 8 { n + 1 } else { 8 }
+    n.saturating_add(1).min(8)
 }
 
-// A motor that is on, after a code.
-fn while_on(k: Calling, heard: u64) -> Run
-    ensures { result ≡ while_on k heard }
-{
-    let strings = k.strings;
-    let stops = matches(strings[1], heard);
-    if stops { Run::Off } else { Run::On }
-}
-
-// A motor that is off, that no string 93 has called and that does not start, after a code.
-fn while_off(k: Calling, heard: u64) -> Run
-    ensures { result ≡ while_off k heard }
-{
-    let strings = k.strings;
-    if matches(strings[2], heard) {
-        Run::Called(0)
-    } else {
-        Run::Off
+impl Listener {
+    // Whether the last codes heard are those of the string at a place.
+    fn hears(self, place: usize) -> bool
+        requires { place < 5 }
+        ensures { result ≡ matches (signal self.calling place) self.heard }
+    {
+        matches(self.calling.strings[place], self.heard)
     }
-}
 
-// Whether the motor runs, after a code.
-fn turned(k: Calling, heard: u64, r: Run) -> Run
-    ensures { result ≡ turned k heard r }
-{
-    match r {
-        Run::On => while_on(k, heard),
-        Run::Off => {
-            if starts(k, heard, 0) {
-                Run::On
-            } else {
-                while_off(k, heard)
-            }
+    // Whether they are, and all of them came among the last n.
+    fn comes(self, place: usize, n: u8) -> bool
+        requires { place < 5 }
+        ensures { result ≡ comes (signal self.calling place) self.heard n }
+    {
+        self.hears(place) & (size(self.calling.strings[place]) <= n)
+    }
+
+    // Whether a motor that is off starts: by the motor power mode, and n codes after the first string 93 that counts, 0 where there is none.
+    fn starts(self, n: u8) -> bool
+        ensures { result ≡ starts self.calling self.heard n }
+    {
+        match self.calling.power {
+            2 => self.hears(0),
+            4 => self.comes(3, n),
+            5 => self.comes(4, n),
+            6 => self.comes(3, n) | self.comes(4, n),
+            _ => false,
         }
-        Run::Called(n) => {
-            let m = later(n);
-            if starts(k, heard, m) {
-                Run::On
-            } else {
-                Run::Called(m)
-            }
+    }
+
+    // A motor that is on, after a code.
+    fn while_on(self) -> Run
+        ensures { result ≡ while_on self.calling self.heard }
+    {
+        if self.hears(1) { Run::Off } else { Run::On }
+    }
+
+    // A motor that is off, that no string 93 has called and that does not start, after a code.
+    fn while_off(self) -> Run
+        ensures { result ≡ while_off self.calling self.heard }
+    {
+        if self.hears(2) {
+            Run::Called(0)
+        } else {
+            Run::Off
+        }
+    }
+
+    // Whether the motor runs, after a code.
+    fn turned(self, r: Run) -> Run
+        ensures { result ≡ turned self.calling self.heard r }
+    {
+        match r {
+            Run::On => self.while_on(),
+            Run::Off if self.starts(0) => Run::On,
+            Run::Off => self.while_off(),
+            Run::Called(n) if self.starts(later(n)) => Run::On,
+            Run::Called(n) => Run::Called(later(n)),
         }
     }
 }
@@ -159,10 +147,10 @@ pub fn hear(k: Calling, m: Motor, c: u8) -> Motor
     ensures { result ≡ hearing k m c }
 {
     let heard = heard_with(m.heard, c);
-    let run = m.run;
+    let listener = Listener { calling: k, heard };
     Motor {
-        heard: heard,
-        run: turned(k, heard, run),
+        heard,
+        run: listener.turned(m.run),
     }
 }
 
@@ -170,11 +158,7 @@ pub fn hear(k: Calling, m: Motor, c: u8) -> Motor
 pub fn is_on(r: Run) -> bool
     ensures { result ≡ is_on r }
 {
-    match r {
-        Run::Off => false,
-        Run::Called(_) => false,
-        Run::On => true,
-    }
+    matches!(r, Run::On)
 }
 
 // Whether its count is at most 8.
@@ -182,9 +166,8 @@ fn sound_run(r: Run) -> bool
     ensures { result ≡ sound_run r }
 {
     match r {
-        Run::Off => true,
         Run::Called(n) => n <= 8,
-        Run::On => true,
+        Run::Off | Run::On => true,
     }
 }
 
@@ -192,6 +175,5 @@ fn sound_run(r: Run) -> bool
 pub fn is_sound(m: Motor) -> bool
     ensures { result ≡ sound_motor m }
 {
-    let run = m.run;
-    word::is_word(m.heard) & sound_run(run)
+    word::is_word(m.heard) & sound_run(m.run)
 }

