@@ -7,15 +7,15 @@ use crate::{Form, Out, Reader, Stage, Step, Verb};
 // The command's type, what stands in the field, which one it is, from 0, and all fields so far; 11 stands for too many, and none of
 // those is kept.
 #[derive(Clone, Copy)]
-pub struct Field {
-    pub verb: Verb,
-    pub form: Form,
-    pub last: u8,
-    pub values: [u8; 11],
+pub(crate) struct Field {
+    pub(crate) verb: Verb,
+    pub(crate) form: Form,
+    pub(crate) last: u8,
+    pub(crate) values: [u8; 11],
 }
 
 // The byte after a command's two letters.
-pub fn typed(verb: Verb, b: u8) -> Step
+pub(crate) fn typed(verb: Verb, b: u8) -> Step
     ensures { result ≡ typed verb b }
 {
     let values = [0; 11];
@@ -112,7 +112,7 @@ impl Field {
     }
 
     // A byte in the field.
-    pub fn next(self, b: u8) -> Step
+    pub(crate) fn next(self, b: u8) -> Step
         ensures { result ≡ field self.verb self.form self.last self.values b }
     {
         match b {
@@ -124,7 +124,7 @@ impl Field {
     }
 
     // What a command makes when it ends in the field.
-    pub fn finish(self) -> Out
+    pub(crate) fn finish(self) -> Out
         ensures { result ≡ finish self.verb self.last }
     {
         match self.last {

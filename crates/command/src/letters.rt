@@ -5,7 +5,7 @@ ghost use Rattle.command.specs.Read.{alike, first, second, verb};
 use crate::{Stage, Step, Verb};
 
 // A command's first letter.
-pub fn first(b: u8) -> Step
+pub(crate) fn first(b: u8) -> Step
     ensures { result ≡ first b }
 {
     if b.is_ascii_alphabetic() {
@@ -38,7 +38,7 @@ fn verb_of(t: bool, b: u8) -> Verb
 }
 
 // A command's second letter.
-pub fn second(small: bool, t: bool, b: u8) -> Step
+pub(crate) fn second(small: bool, t: bool, b: u8) -> Step
     ensures { result ≡ second small t b }
 {
     if alike(small, b) {
