@@ -14,30 +14,27 @@ use Rattle.sender.specs.Code.{is_case, shift_to, shift_for, unshift, follow, sen
 use Rattle.sender.specs.Ending.{on_record, ending_code, ending_of, until_zero, due, ending, ending_before}
 use Rattle.sender.specs.Item.{last_of, repeats, item}
 use Rattle.agree.specs.Sure.{CaseSure}
-use Rattle.demands.specs.Names.{Case, Letters, Figures, Kind, Still, Space, Return, Shift, Char, Settings, Known, Is, Column, At, Record, Last, Wanted, Sender}
-use Rattle.demands.specs.Names.known
-use Rattle.demands.specs.Names.column
-use Rattle.demands.specs.Names.last
+use Rattle.demands.specs.Names.{Case, Letters, Figures, Kind, Still, Space, Return, Shift, Char, Settings, Record, Wanted, Sender, Option, Some, None}
 use Rattle.demands.specs.ItemCodes.{If, NeedsShift, NeedsLetters, Unshifts, Sends, Repeats, Dropped, Reached, EndingDue, ItemSends}
 
 -- One code.
 
-is_case_law : (n : Known) (want : Case) → is_case n want ≡ true → n ≡ Is want
-is_case_law known.Unknown want h = absurd (false≢true h)
-is_case_law (Is Letters) Letters h = refl
-is_case_law (Is Letters) Figures h = absurd (false≢true h)
-is_case_law (Is Figures) Letters h = absurd (false≢true h)
-is_case_law (Is Figures) Figures h = refl
+is_case_law : (n : Option Case) (want : Case) → is_case n want ≡ true → n ≡ Some want
+is_case_law None want h = absurd (false≢true h)
+is_case_law (Some Letters) Letters h = refl
+is_case_law (Some Letters) Figures h = absurd (false≢true h)
+is_case_law (Some Figures) Letters h = absurd (false≢true h)
+is_case_law (Some Figures) Figures h = refl
 
-case_is : (n : Known) (want : Case) → n ≡ Is want → is_case n want ≡ true
+case_is : (n : Option Case) (want : Case) → n ≡ Some want → is_case n want ≡ true
 case_is n Letters h = rw h refl
 case_is n Figures h = rw h refl
 
 -- a shift unless its case is on record
-shift_to_law : (n : Known) (want : Case) → If (n ≡ Is want → ⊥) (shift want ∷ []) (shifts (shift_to n want))
+shift_to_law : (n : Option Case) (want : Case) → If (n ≡ Some want → ⊥) (shift want ∷ []) (shifts (shift_to n want))
 shift_to_law n want = go (is_case n want) refl
   where
-    go : (b : Bool) → is_case n want ≡ b → If (n ≡ Is want → ⊥) (shift want ∷ []) (shifts (cond b [] (want ∷ [])))
+    go : (b : Bool) → is_case n want ≡ b → If (n ≡ Some want → ⊥) (shift want ∷ []) (shifts (cond b [] (want ∷ [])))
     go true e = record { holds = λ x. absurd (x (is_case_law n want e)); fails = λ x. refl }
     go false e = record { holds = λ x. refl; fails = λ x. absurd (x (λ h. false≢true (sym e ∙ case_is n want h))) }
 
@@ -48,72 +45,72 @@ with_first P Q codes part p h = record { holds = λ x. h.holds x.1; fails = λ x
 without_first : (P Q : Type 0) (codes : List ℕ) → (P → ⊥) → If (P × Q) codes []
 without_first P Q codes n = record { holds = λ x. absurd (n x.0); fails = λ x. refl }
 
-shift_for_law : (n : Known) (want : Case) (k : Kind) → If (NeedsShift n want k) (shift want ∷ []) (shifts (shift_for n want k))
+shift_for_law : (n : Option Case) (want : Case) (k : Kind) → If (NeedsShift n want k) (shift want ∷ []) (shifts (shift_for n want k))
 shift_for_law n want k = go (dependent k) refl
   where
-    go : (b : Bool) → dependent k ≡ b → If ((b ≡ true) × (n ≡ Is want → ⊥)) (shift want ∷ []) (shifts (cond b (shift_to n want) []))
-    go true e = with_first (true ≡ true) (n ≡ Is want → ⊥) (shift want ∷ []) (shifts (shift_to n want)) refl (shift_to_law n want)
-    go false e = without_first (false ≡ true) (n ≡ Is want → ⊥) (shift want ∷ []) false≢true
+    go : (b : Bool) → dependent k ≡ b → If ((b ≡ true) × (n ≡ Some want → ⊥)) (shift want ∷ []) (shifts (cond b (shift_to n want) []))
+    go true e = with_first (true ≡ true) (n ≡ Some want → ⊥) (shift want ∷ []) (shifts (shift_to n want)) refl (shift_to_law n want)
+    go false e = without_first (false ≡ true) (n ≡ Some want → ⊥) (shift want ∷ []) false≢true
 
-unshift_if : (b : Bool) (n : Known) → If ((b ≡ true) × (n ≡ Is Letters → ⊥)) (shift Letters ∷ []) (shifts (unshift b n))
-unshift_if true n = with_first (true ≡ true) (n ≡ Is Letters → ⊥) (shift Letters ∷ []) (shifts (shift_to n Letters)) refl (shift_to_law n Letters)
-unshift_if false n = without_first (false ≡ true) (n ≡ Is Letters → ⊥) (shift Letters ∷ []) false≢true
+unshift_if : (b : Bool) (n : Option Case) → If ((b ≡ true) × (n ≡ Some Letters → ⊥)) (shift Letters ∷ []) (shifts (unshift b n))
+unshift_if true n = with_first (true ≡ true) (n ≡ Some Letters → ⊥) (shift Letters ∷ []) (shifts (shift_to n Letters)) refl (shift_to_law n Letters)
+unshift_if false n = without_first (false ≡ true) (n ≡ Some Letters → ⊥) (shift Letters ∷ []) false≢true
 
-follow_if : (o : Settings) (n : Known) (k : Kind) → If (Unshifts o k × (n ≡ Is Letters → ⊥)) (shift Letters ∷ []) (shifts (follow o n k))
-follow_if o n Still = without_first ⊥ (n ≡ Is Letters → ⊥) (shift Letters ∷ []) (λ x. x)
+follow_if : (o : Settings) (n : Option Case) (k : Kind) → If (Unshifts o k × (n ≡ Some Letters → ⊥)) (shift Letters ∷ []) (shifts (follow o n k))
+follow_if o n Still = without_first ⊥ (n ≡ Some Letters → ⊥) (shift Letters ∷ []) (λ x. x)
 follow_if o n Space = unshift_if (onspace o) n
 follow_if o n Return = unshift_if (onreturn o) n
-follow_if o n (Shift to) = without_first ⊥ (n ≡ Is Letters → ⊥) (shift Letters ∷ []) (λ x. x)
-follow_if o n (Char bell) = without_first ⊥ (n ≡ Is Letters → ⊥) (shift Letters ∷ []) (λ x. x)
+follow_if o n (Shift to) = without_first ⊥ (n ≡ Some Letters → ⊥) (shift Letters ∷ []) (λ x. x)
+follow_if o n (Char bell) = without_first ⊥ (n ≡ Some Letters → ⊥) (shift Letters ∷ []) (λ x. x)
 
 -- a code in its wanted case
-code_sends : (o : Settings) (n : Known) (want : Case) (c : ℕ) → Sends o n (NeedsShift n want (kind_of c)) want c (send_as o n want c)
+code_sends : (o : Settings) (n : Option Case) (want : Case) (c : ℕ) → Sends o n (NeedsShift n want (kind_of c)) want c (send_as o n want c)
 code_sends o n want c = record { before = shifts (shift_for n want (kind_of c)); after = shifts (follow o n (kind_of c)); all = refl; shifted = shift_for_law n want (kind_of c); unshifted = follow_if o n (kind_of c) }
 
 -- a code of string 90 goes in whatever case is on record; met with the case unknown, it is preceded by LTRS if it depends on case
-pub ending_code_sends : (o : Settings) (n : Known) (c : ℕ) → Sends o n (NeedsLetters n (kind_of c)) Letters c (ending_code o n c)
+pub ending_code_sends : (o : Settings) (n : Option Case) (c : ℕ) → Sends o n (NeedsLetters n (kind_of c)) Letters c (ending_code o n c)
 ending_code_sends o n c = record { before = shifts (shift_for n (on_record n) (kind_of c)); after = shifts (follow o n (kind_of c)); all = refl; shifted = go n (dependent (kind_of c)) refl; unshifted = follow_if o n (kind_of c) }
   where
-    unknown : (case : Case) → Is case ≡ known.Unknown → ⊥
+    unknown : (case : Case) → Some case ≡ None → ⊥
     unknown case e = subst CaseSure e tt
 
-    go : (n : Known) (b : Bool) → dependent (kind_of c) ≡ b → If ((b ≡ true) × (n ≡ known.Unknown)) (shift Letters ∷ []) (shifts (cond b (shift_to n (on_record n)) []))
-    go n false e = without_first (false ≡ true) (n ≡ known.Unknown) (shift Letters ∷ []) false≢true
-    go known.Unknown true e = record { holds = λ x. refl; fails = λ x. absurd (x (refl, refl)) }
-    go (Is Letters) true e = record { holds = λ x. absurd (unknown Letters x.1); fails = λ x. refl }
-    go (Is Figures) true e = record { holds = λ x. absurd (unknown Figures x.1); fails = λ x. refl }
+    go : (n : Option Case) (b : Bool) → dependent (kind_of c) ≡ b → If ((b ≡ true) × (n ≡ None)) (shift Letters ∷ []) (shifts (cond b (shift_to n (on_record n)) []))
+    go n false e = without_first (false ≡ true) (n ≡ None) (shift Letters ∷ []) false≢true
+    go None true e = record { holds = λ x. refl; fails = λ x. absurd (x (refl, refl)) }
+    go (Some Letters) true e = record { holds = λ x. absurd (unknown Letters x.1); fails = λ x. refl }
+    go (Some Figures) true e = record { holds = λ x. absurd (unknown Figures x.1); fails = λ x. refl }
 
 -- One item.
 
 -- option 72
-repeated : (k : Kind) (l : Last) → repeats (last_of k) l ≡ true → Repeats k l
+repeated : (k : Kind) (l : Option Case) → repeats (last_of k) l ≡ true → Repeats k l
 repeated Still l h = absurd (false≢true h)
 repeated Space l h = absurd (false≢true h)
 repeated Return l h = absurd (false≢true h)
-repeated (Shift to) last.Other h = absurd (false≢true h)
-repeated (Shift Letters) (last.Shift Letters) h = refl
-repeated (Shift Letters) (last.Shift Figures) h = absurd (false≢true h)
-repeated (Shift Figures) (last.Shift Letters) h = absurd (false≢true h)
-repeated (Shift Figures) (last.Shift Figures) h = refl
+repeated (Shift to) None h = absurd (false≢true h)
+repeated (Shift Letters) (Some Letters) h = refl
+repeated (Shift Letters) (Some Figures) h = absurd (false≢true h)
+repeated (Shift Figures) (Some Letters) h = absurd (false≢true h)
+repeated (Shift Figures) (Some Figures) h = refl
 repeated (Char bell) l h = absurd (false≢true h)
 
-repeating : (k : Kind) (l : Last) → Repeats k l → repeats (last_of k) l ≡ true
+repeating : (k : Kind) (l : Option Case) → Repeats k l → repeats (last_of k) l ≡ true
 repeating Still l h = absurd h
 repeating Space l h = absurd h
 repeating Return l h = absurd h
-repeating (Shift to) last.Other h = absurd h
-repeating (Shift to) (last.Shift Letters) h = rw h refl
-repeating (Shift to) (last.Shift Figures) h = rw h refl
+repeating (Shift to) None h = absurd h
+repeating (Shift to) (Some Letters) h = rw h refl
+repeating (Shift to) (Some Figures) h = rw h refl
 repeating (Char bell) l h = absurd h
 
 -- option 49
-is_due : (o : Settings) (col : Column) → due o col ≡ true → (endings o ≡ true) × Reached o col
-is_due o column.Unknown h = absurd (false≢true h)
-is_due o (At n) h = let p = both (endings o) (leb (limit o) n) h in (p.0, leb-true (limit o) n p.1)
+is_due : (o : Settings) (col : Option ℕ) → due o col ≡ true → (endings o ≡ true) × Reached o col
+is_due o None h = absurd (false≢true h)
+is_due o (Some n) h = let p = both (endings o) (leb (limit o) n) h in (p.0, leb-true (limit o) n p.1)
 
-due_is : (o : Settings) (col : Column) → endings o ≡ true → Reached o col → due o col ≡ true
-due_is o column.Unknown e h = absurd h
-due_is o (At n) e h = rw (e, le-leb (limit o) n h) refl
+due_is : (o : Settings) (col : Option ℕ) → endings o ≡ true → Reached o col → due o col ≡ true
+due_is o None e h = absurd h
+due_is o (Some n) e h = rw (e, le-leb (limit o) n h) refl
 
 ending_if : (o : Settings) (r : Record) (w : Wanted) → If (EndingDue o r w) (ending_of o r (until_zero (ending_codes o))) (ending_before o r w)
 ending_if o r w = go (moves w.case (kind_of w.code) && due o r.column) refl

@@ -21,8 +21,7 @@ use Rattle.agree.proofs.Agreement.{agreement}
 use Rattle.agree.proofs.Folds.{prints_shifts, obeys_append, item_cases}
 use Rattle.agree.proofs.Told.{column_told}
 use Rattle.agree.proofs.Margin.{item_below}
-use Rattle.demands.specs.Names.{Case, Kind, Still, Space, Return, Shift, Char, Settings, Known, Column, Record, Wanted, Sender, Printer, Mark}
-use Rattle.demands.specs.Names.column
+use Rattle.demands.specs.Names.{Case, Kind, Still, Space, Return, Shift, Char, Settings, Record, Wanted, Sender, Printer, Mark, Option, Some, None}
 use Rattle.demands.specs.Printing.{Within}
 
 below_split : (limit : ℕ) (xs ys : List Mark) → Below limit (xs ++ ys) → Below limit xs × Below limit ys
@@ -52,7 +51,7 @@ module _ (limit : ℕ) where
   shifted_within p want c false = (none, ((λ h. none (rw (kind_shift want) at h)), tt))
 
   -- no return before it, and none in it that anything lands after
-  code_within : (o : Settings) (n : Known) (p : Printer) (want : Case) (c : ℕ) → Within limit false p (send_as o n want c)
+  code_within : (o : Settings) (n : Option Case) (p : Printer) (want : Case) (c : ℕ) → Within limit false p (send_as o n want c)
   code_within o n p want c = go (kind_of c)
     where
       go : (k : Kind) → Within limit false p (send_kind o n want k c)
@@ -63,7 +62,7 @@ module _ (limit : ℕ) where
       go (Char bell) = shifted_within p want c (is_case n want)
 
 -- with the column unknown no ending is due
-unknown_within : (limit : ℕ) (o : Settings) (r : Record) (p : Printer) (w : Wanted) → r.column ≡ column.Unknown → Within limit false p (character o r w)
+unknown_within : (limit : ℕ) (o : Settings) (r : Record) (p : Printer) (w : Wanted) → r.column ≡ None → Within limit false p (character o r w)
 unknown_within limit o r p w e =
     let d : ending_before o r w ≡ [] = rw (e, and-false) in
     rw d (code_within limit o r.case p w.case w.code)
@@ -75,10 +74,10 @@ module _ (o : Settings) (h : sound_settings o ≡ true) (on : endings o ≡ true
       known : (b : Bool) → ColumnSure s.held.column → Within (limit o) b p (item o s w)
       known b f = below_within (limit o) b p (item o s w) (item_below o h on s p w f obeys a)
 
-      go : (col : Column) → s.held.column ≡ col → (b : Bool) → (b ≡ true → ColumnSure s.held.column) → Within (limit o) b p (item o s w)
-      go (column.At n) e b sure = known b (rw e tt)
-      go column.Unknown e true sure = known true (sure refl)
-      go column.Unknown e false sure = item_cases o s w (Within (limit o) false p) tt (unknown_within (limit o) o s.held p w e)
+      go : (col : Option ℕ) → s.held.column ≡ col → (b : Bool) → (b ≡ true → ColumnSure s.held.column) → Within (limit o) b p (item o s w)
+      go (Some n) e b sure = known b (rw e tt)
+      go None e true sure = known true (sure refl)
+      go None e false sure = item_cases o s w (Within (limit o) false p) tt (unknown_within (limit o) o s.held p w e)
 
   -- many items, each with the column known as soon as a return was sent
   pub items_within : (s : Sender) (p : Printer) (ws : List Wanted) (b : Bool) → (b ≡ true → ColumnSure s.held.column) → Obeys o p (items o s ws) → Agrees s.held p → Within (limit o) b p (items o s ws)

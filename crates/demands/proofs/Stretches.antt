@@ -17,10 +17,7 @@ use Rattle.agree.specs.Agrees.{Agrees, Obeys}
 use Rattle.agree.proofs.Agreement.{agreement}
 use Rattle.agree.proofs.Folds.{prints_append, obeys_append, item_cases}
 use Rattle.agree.proofs.Prints.{code_prints}
-use Rattle.demands.specs.Names.{Letters, Figures, Kind, Still, Space, Return, Shift, Char, Settings, Known, Is, Column, Record, Wanted, Sender, Printer, Mark}
-use Rattle.demands.specs.Names.known
-use Rattle.demands.specs.Names.column
-use Rattle.demands.specs.Names.last
+use Rattle.demands.specs.Names.{Case, Letters, Figures, Kind, Still, Space, Return, Shift, Char, Settings, Record, Wanted, Sender, Printer, Mark, Option, Some, None}
 use Rattle.demands.specs.Asks.{is_shift, code_in}
 use Rattle.demands.specs.Printing.{Stretch, codes_in, GoesOut, Endings, characters_of, own_prints, Printed}
 use Rattle.demands.proofs.Reading.{reads}
@@ -73,7 +70,7 @@ module _ (o : Settings) where
 
   module _ (c : ℕ) (cs sent : List ℕ) (h : GoesOut o cs sent) where
     -- with its option on, LTRS follows unless the case is letters
-    followed : (on : Bool) (n : Known) → (on ≡ true → GoesOut o (c ∷ cs) (c ∷ shift Letters ∷ sent)) → GoesOut o (c ∷ cs) (c ∷ shifts (unshift on n) ++ sent)
+    followed : (on : Bool) (n : Option Case) → (on ≡ true → GoesOut o (c ∷ cs) (c ∷ shift Letters ∷ sent)) → GoesOut o (c ∷ cs) (c ∷ shifts (unshift on n) ++ sent)
     followed false n t = GoesOut.Alone h
     followed true n t = go (is_case n Letters)
       where
@@ -82,12 +79,12 @@ module _ (o : Settings) where
         go false = t refl
 
     -- met with the case unknown, it is preceded by LTRS
-    led : (n : Known) → dependent (kind_of c) ≡ true → GoesOut o (c ∷ cs) ((shifts (shift_to n (on_record n)) ++ c ∷ []) ++ sent)
-    led known.Unknown e = GoesOut.Led e h
-    led (Is Letters) e = GoesOut.Alone h
-    led (Is Figures) e = GoesOut.Alone h
+    led : (n : Option Case) → dependent (kind_of c) ≡ true → GoesOut o (c ∷ cs) ((shifts (shift_to n (on_record n)) ++ c ∷ []) ++ sent)
+    led None e = GoesOut.Led e h
+    led (Some Letters) e = GoesOut.Alone h
+    led (Some Figures) e = GoesOut.Alone h
 
-    code_goes : (n : Known) → GoesOut o (c ∷ cs) (ending_code o n c ++ sent)
+    code_goes : (n : Option Case) → GoesOut o (c ∷ cs) (ending_code o n c ++ sent)
     code_goes n = go (kind_of c) refl
       where
         go : (k : Kind) → kind_of c ≡ k → GoesOut o (c ∷ cs) (send_kind o n (on_record n) k c ++ sent)
@@ -103,9 +100,9 @@ module _ (o : Settings) where
       let next = notes o r (ending_code o r.case c) in
       code_goes c cs (ending_of o next cs) (string_goes next cs) r.case
 
-  is_on : (col : Column) → due o col ≡ true → endings o ≡ true
-  is_on column.Unknown h = absurd (false≢true h)
-  is_on (column.At n) h = (both (endings o) (leb (limit o) n) h).0
+  is_on : (col : Option ℕ) → due o col ≡ true → endings o ≡ true
+  is_on None h = absurd (false≢true h)
+  is_on (Some n) h = (both (endings o) (leb (limit o) n) h).0
 
   -- string 90 if it is due
   ending_printed : (p : Printer) (r : Record) (b : Bool) → (b ≡ true → endings o ≡ true) → Printed o p (ending o r b) []
@@ -144,7 +141,7 @@ module _ (o : Settings) where
   item_printed : (s : Sender) (p : Printer) (w : Wanted) → Obeys o p (item o s w) → Agrees s.held p → Printed o p (item o s w) (code_in w.case w.code)
   item_printed s p w obeys a = go (kind_of w.code) refl
     where
-      sent : last_of (kind_of w.code) ≡ last.Other → Printed o p (item o s w) (code_in w.case w.code)
+      sent : last_of (kind_of w.code) ≡ None → Printed o p (item o s w) (code_in w.case w.code)
       sent h = rw h (character_printed s.held p w (rw h at obeys) a)
 
       go : (k : Kind) → kind_of w.code ≡ k → Printed o p (item o s w) (code_in w.case w.code)

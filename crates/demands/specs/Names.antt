@@ -13,15 +13,8 @@ pub use Rattle.command.specs.declared.Out.TheVariants.{Nothing, One, Two, Finish
 pub use Rattle.settings.specs.declared.Settings.{Settings}
 pub use Rattle.settings.specs.declared.Calling.{Calling}
 pub use Rattle.settings.specs.declared.Connection.{Connection}
-pub use Rattle.sender.specs.declared.Known.{Known}
-pub use Rattle.sender.specs.declared.Known.TheVariants.{Is}
-pub use Rattle.sender.specs.declared.Known.TheVariants as known
-pub use Rattle.sender.specs.declared.Column.{Column}
-pub use Rattle.sender.specs.declared.Column.TheVariants.{At}
-pub use Rattle.sender.specs.declared.Column.TheVariants as column
+pub use Rattle.std.specs.Prelude.{Option, Some, None}
 pub use Rattle.sender.specs.declared.Record.{Record}
-pub use Rattle.sender.specs.declared.Last.{Last}
-pub use Rattle.sender.specs.declared.Last.TheVariants as last
 pub use Rattle.sender.specs.declared.Wanted.{Wanted}
 pub use Rattle.sender.specs.declared.Sender.{Sender}
 pub use Rattle.printer.specs.declared.Printer.{Printer}

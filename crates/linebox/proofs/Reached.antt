@@ -17,9 +17,7 @@ use Rattle.settings.specs.Table.{row, sound_string, sound_signal, is_signal, sou
 use Rattle.settings.specs.Options.{endings, limit, onspace, onreturn, filter, reports, stand_in, ending_codes}
 use Rattle.settings.specs.Command.{commanded}
 use Rattle.motor.specs.Motor.{latest, size, matches, signal, starts, hearing, sound_motor}
-use Rattle.sender.specs.declared.Known.TheVariants.{Is}
-use Rattle.sender.specs.declared.Column.TheVariants.{At}
-use Rattle.sender.specs.declared.Last.TheVariants as last
+use Rattle.std.specs.Prelude.{Some, None}
 use Rattle.linebox.specs.Names.{Letters, Figures, State, Stream, Host, Line, Tu}
 use Rattle.step.specs.State.{fresh_box, sound, with_reader, with_sender, with_incoming, with_stored}
 use Rattle.step.specs.Route.{route}
@@ -44,7 +42,7 @@ mode4 = 4 ∷ 2 ∷ 1 ∷ 60 ∷ []
 abbrev due : List ℕ → List ℕ → Stage → State
 due mode string stage =
     let s = written fresh_box (mode ∷ (49 ∷ 1 ∷ 1 ∷ []) ∷ (50 ∷ 1 ∷ 10 ∷ []) ∷ (71 ∷ 1 ∷ 1 ∷ []) ∷ (74 ∷ 1 ∷ 1 ∷ []) ∷ (90 ∷ 8 ∷ string) ∷ []) in
-    with_reader (with_sender (with_incoming s Figures) (record { held = record { case = Is Letters; column = At 10 }; last = last.Other })) (record { stage = stage; values = 90 ∷ 0 ∷ 0 ∷ 0 ∷ 0 ∷ 0 ∷ 0 ∷ 0 ∷ 0 ∷ 0 ∷ 0 ∷ [] })
+    with_reader (with_sender (with_incoming s Figures) (record { held = record { case = Some Letters; column = Some 10 }; last = None })) (record { stage = stage; values = 90 ∷ 0 ∷ 0 ∷ 0 ∷ 0 ∷ 0 ∷ 0 ∷ 0 ∷ 0 ∷ 0 ∷ 0 ∷ [] })
 
 abbrev shifting : List ℕ
 shifting = 27 ∷ 8 ∷ 27 ∷ 8 ∷ 27 ∷ 8 ∷ 27 ∷ 8 ∷ []
