@@ -31,14 +31,16 @@ pub struct Sender {
     pub last: Option<Case>,
 }
 
-// How the bytes of a stream ask for items: host text by its code or the stand-in's, TU codes in the incoming reading case.
+// How the bytes of a stream ask for items: host text by its code or the stand-in's, TU codes in the incoming reading case. No `Option<Case>`: its
+// `None` would have to be read as text.
 #[derive(Clone, Copy)]
 pub enum Asks {
     Text,
     Codes(Case),
 }
 
-// What stops a run of bytes, beside want of room: nothing, a byte, or any byte above one.
+// What stops a run of bytes, beside want of room: nothing, a byte, or any byte above one. No closure: with `impl Fn(u8) -> bool` the loop over bytes
+// is compiled for each and an item into none of them, and a night's log takes 8 % more instructions, TU codes 29 %, more than the older form took.
 #[derive(Clone, Copy)]
 pub enum Until {
     Never,
