@@ -81,9 +81,7 @@ impl Record {
         }
     }
 
-    // The codes of a string's word as an ending, up to the first 0. It is hardly ever entered: compiled into the loop over bytes it would take
-    // registers from it.
-    #[inline(never)]
+    // The codes of a string's word as an ending, up to the first 0.
     pub(crate) fn put_ending(self, o: Settings, string: u64, out: &mut [u8]) -> Noted<Record>
         requires { length (ending_of o self (until_zero (unpacked string))) ≤ length out.old }
         ensures { Notes o self (ending_of o self (until_zero (unpacked string))) out.old out.new result }

@@ -40,7 +40,8 @@ pub enum Asks {
 }
 
 // What stops a run of bytes, beside want of room: nothing, a byte, or any byte above one. No closure: with `impl Fn(u8) -> bool` the loop over bytes
-// is compiled for each and an item into none of them, and a night's log takes 8 % more instructions, TU codes 29 %, more than the older form took.
+// is compiled for each and an item into none of them (three in ten more instructions for a night's log, and with endings more than the older form
+// took); with `&dyn Fn(u8) -> bool`, which is as quick, each caller has to name its test a second time, for `run_of`.
 #[derive(Clone, Copy)]
 pub enum Until {
     Never,
