@@ -13,12 +13,6 @@ use Rattle.settings.proofs.Held.{stand_in_sound}
 use Rattle.sender.specs.Names.{Conversion, Nothing, Free, Cased, Settings}
 use Rattle.sender.specs.Item.{standing, or_else, spoken}
 
--- a byte with a code is itself
-pub spoken_itself : (x other : Conversion) → (x ≡ Nothing → ⊥) → or_else x other ≡ x
-spoken_itself Nothing other h = absurd (h refl)
-spoken_itself (Free c) other h = refl
-spoken_itself (Cased case c) other h = refl
-
 -- what a test of two parts says where its first part fails
 second : (a b : Bool) → a ≡ false → (a || b) ≡ true → b ≡ true
 second a b e h = rw e at h

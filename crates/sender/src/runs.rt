@@ -2,7 +2,7 @@
 ghost use Rattle.std.specs.Prelude.{◌≡◌, ◌≤◌, ◌<◌, length};
 ghost use Rattle.std.specs.Option.{option_to_list};
 ghost use Rattle.convert.specs.Entry.{Tabled};
-ghost use Rattle.sender.specs.Item.{items, wanted_of, standing, spoken, converted};
+ghost use Rattle.sender.specs.Item.{items, wanted_of, spoken, converted};
 ghost use Rattle.sender.specs.Run.{asks_next, case_asked, stops_at, PutsItems, run_of, SendsRun};
 
 use crate::readings::case_after;
@@ -13,24 +13,13 @@ use settings::Settings;
 // The most codes that a byte can be: two for each of string 90's eight, and two for its own.
 const MOST: usize = 18;
 
-// The stand-in's conversion by the table lent, nothing while option 77 is 0.
-fn standing(o: Settings, table: &[u8]) -> Conversion
-    requires { Tabled table.now }
-    ensures { result ≡ standing o }
-{
-    match o.stand_in() {
-        0 => Conversion::Nothing,
-        b => convert::look_up(table, b),
-    }
-}
-
-// What a byte of text is on the line by the table lent: the stand-in is looked up for a byte without a code alone.
+// What a byte of text is on the line by the table lent: its own code, or where it has none the stand-in's, unless option 77 is 0.
 fn speak(o: Settings, table: &[u8], b: u8) -> Conversion
     requires { Tabled table.now }
     ensures { result ≡ spoken o b }
 {
     match convert::look_up(table, b) {
-        Conversion::Nothing => standing(o, table),
+        Conversion::Nothing if o.stand_in() != 0 => convert::look_up(table, o.stand_in()),
         own => own,
     }
 }
