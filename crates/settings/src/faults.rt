@@ -16,6 +16,13 @@ pub struct Command {
     pub fields: [u8; 11],
 }
 
+// Eight bytes, by way of one number.
+fn by_number(bytes: [u8; 8]) -> [u8; 8]
+    ensures { result ≡ bytes }
+{
+    u64::from_le_bytes(bytes).to_le_bytes()
+}
+
 impl Command {
     // The field at a place; 0 where there is none.
     fn field(self, place: usize) -> u8
@@ -51,11 +58,13 @@ impl Command {
         (self.fields[1] == n) & ((c == k + 2) | (c == k + 3))
     }
 
-    // The parameters, and what follows them.
+    // The parameters, and what follows them. Eight go by one number: what is looked at place by place is kept in a register for each, and
+    // the command reader, compiled into the same loop, would carry eleven.
     pub fn parameters(self) -> [u8; 9]
         ensures { result ≡ drop 2 self.fields }
     {
         let [_, _, a, b, c, d, e, f, g, h, last] = self.fields;
+        let [a, b, c, d, e, f, g, h] = by_number([a, b, c, d, e, f, g, h]);
         [a, b, c, d, e, f, g, h, last]
     }
 
