@@ -157,7 +157,7 @@ impl Setup {
         ensures { result ≡ stand_in (store self.settings self.calling self.connection command.row.home command.row.number (drop 2 command.fields)).settings }
     {
         match command.row.home {
-            Home::Value(6, _, _) => command.fields[2],
+            Home::Value(6, _, _) => command.parameters()[0],
             Home::Factory => 0,
             _ => self.settings.stand_in(),
         }
