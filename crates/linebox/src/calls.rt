@@ -11,7 +11,6 @@ use step::host::put_read;
 use step::line::put_line;
 use step::sends::put_tu;
 use step::soundness::is_sound;
-use step::states::with_reader;
 
 // How the bytes of a stream are taken: from a sound state, as many as have room in the two lent buffers.
 pub trait Input {
@@ -45,33 +44,31 @@ impl Input for HostBytes {
     // something, again and again.
     fn take(start: State, input: &[u8], line: &mut [u8], host: &mut [u8]) -> Called {
         let mut state = start;
-        let mut taken = 0;
+        let mut rest = input;
         let mut one = 0;
         let mut two = 0;
-        while taken < input.len() {
-            let text = take_text(state, &input[taken..], &mut line[one..]);
-            let told = text.state;
-            let reader = told.reader;
+        while !rest.is_empty() {
+            let text = take_text(state, rest, &mut line[one..]);
             one += text.count;
-            taken += text.taken;
-            let kept = reader.run(&input[taken..]);
-            let held = kept.reader;
-            let next = kept.next;
-            state = with_reader(told, held);
-            taken += kept.taken;
-            if input.len() <= taken {
-                return ended(Answer::All, taken, one, two, state);
-            }
-            let x = put_read(state, next, &mut line[one..], &mut host[two..]);
-            if !x.fits {
-                return ended(Answer::NoRoom, taken, one, two, state);
-            }
+            rest = &rest[text.taken..];
+            let kept = text.state.reader.run(rest);
+            state = State {
+                reader: kept.reader,
+                ..text.state
+            };
+            rest = &rest[kept.taken..];
+            let [_, tail @ ..] = rest else {
+                return ended(Answer::All, input.len(), one, two, state);
+            };
+            let Some(x) = put_read(state, kept.next, &mut line[one..], &mut host[two..]) else {
+                return ended(Answer::NoRoom, input.len() - rest.len(), one, two, state);
+            };
             state = x.state;
             one += x.first;
             two += x.second;
-            taken += 1;
+            rest = tail;
         }
-        ended(Answer::All, taken, one, two, state)
+        ended(Answer::All, input.len(), one, two, state)
     }
 }
 
@@ -84,24 +81,20 @@ impl Input for LineCodes {
     // Line codes from a sound state, as many as have room.
     fn take(start: State, codes: &[u8], host: &mut [u8], tu: &mut [u8]) -> Called {
         let mut state = start;
-        let mut taken = 0;
         let mut one = 0;
         let mut two = 0;
-        while taken < codes.len() {
-            let c = codes[taken];
+        for (taken, &c) in codes.iter().enumerate() {
             if 31 < c {
                 return ended(Answer::NoCode, taken, one, two, state);
             }
-            let x = put_line(state, c, &mut host[one..], &mut tu[two..]);
-            if !x.fits {
+            let Some(x) = put_line(state, c, &mut host[one..], &mut tu[two..]) else {
                 return ended(Answer::NoRoom, taken, one, two, state);
-            }
+            };
             state = x.state;
             one += x.first;
             two += x.second;
-            taken += 1;
         }
-        ended(Answer::All, taken, one, two, state)
+        ended(Answer::All, codes.len(), one, two, state)
     }
 }
 
@@ -114,31 +107,29 @@ impl Input for TuCodes {
     // TU codes from a sound state, as many as have room: a run of codes, and the one that may not fit, again and again.
     fn take(start: State, codes: &[u8], line: &mut [u8], host: &mut [u8]) -> Called {
         let mut state = start;
-        let mut taken = 0;
+        let mut rest = codes;
         let mut one = 0;
         let mut two = 0;
-        while taken < codes.len() {
-            let run = take_codes(state, &codes[taken..], &mut line[one..]);
+        while !rest.is_empty() {
+            let run = take_codes(state, rest, &mut line[one..]);
             state = run.state;
             one += run.count;
-            taken += run.taken;
-            if codes.len() <= taken {
-                return ended(Answer::All, taken, one, two, state);
+            rest = &rest[run.taken..];
+            let [code, tail @ ..] = rest else {
+                return ended(Answer::All, codes.len(), one, two, state);
+            };
+            if 31 < *code {
+                return ended(Answer::NoCode, codes.len() - rest.len(), one, two, state);
             }
-            let code = codes[taken];
-            if 31 < code {
-                return ended(Answer::NoCode, taken, one, two, state);
-            }
-            let x = put_tu(state, code, &mut line[one..], &mut host[two..]);
-            if !x.fits {
-                return ended(Answer::NoRoom, taken, one, two, state);
-            }
+            let Some(x) = put_tu(state, *code, &mut line[one..], &mut host[two..]) else {
+                return ended(Answer::NoRoom, codes.len() - rest.len(), one, two, state);
+            };
             state = x.state;
             one += x.first;
             two += x.second;
-            taken += 1;
+            rest = tail;
         }
-        ended(Answer::All, taken, one, two, state)
+        ended(Answer::All, codes.len(), one, two, state)
     }
 }
 
@@ -146,11 +137,7 @@ impl Input for TuCodes {
 pub fn rest(input: &[u8], taken: usize) -> &[u8]
     ensures { result.now ≡ drop taken input.now }
 {
-    if taken <= input.len() {
-        &input[taken..]
-    } else {
-        &input[0..0]
-    }
+    input.get(taken..).unwrap_or(&[])
 }
 
 // A call of any stream, from the count taken so far: answer 3 where the state is not sound.

@@ -20,14 +20,16 @@ pub enum Answer {
 }
 
 // The paper's number of an answer.
-pub fn number_of(a: Answer) -> u32
-    ensures { result ≡ number_of a }
-{
-    match a {
-        Answer::All => 0,
-        Answer::NoRoom => 1,
-        Answer::NoCode => 2,
-        Answer::Unsound => 3,
+impl From<Answer> for u32 {
+    ghost from_gives = { λ a n. n ≡ number_of a };
+
+    fn from(a: Answer) -> u32 {
+        match a {
+            Answer::All => 0,
+            Answer::NoRoom => 1,
+            Answer::NoCode => 2,
+            Answer::Unsound => 3,
+        }
     }
 }
 

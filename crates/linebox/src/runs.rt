@@ -13,31 +13,21 @@ use command::{Reader, Stage};
 use sender::{Asks, Until};
 use step::hears::is_heard;
 use step::routes::prints;
-use step::states::{with_incoming, with_reader, with_sender};
 use step::{State, Stream};
 
 // Whether the command reader holds nothing.
 fn is_text(stage: Stage) -> bool
     ensures { result ≡ is_text stage }
 {
-    match stage {
-        Stage::Text => true,
-        Stage::Swallow => false,
-        Stage::Held => false,
-        Stage::Begun => false,
-        Stage::Lettered(_, _) => false,
-        Stage::Typed(_) => false,
-        Stage::Fields(_, _, _) => false,
-        Stage::Discard => false,
-    }
+    matches!(stage, Stage::Text)
 }
 
 // No byte taken.
-fn unmoved(s: State) -> Ran
-    ensures { result ≡ record { state = s; taken = 0; count = 0 } }
+fn unmoved(state: State) -> Ran
+    ensures { result ≡ record { state = state; taken = 0; count = 0 } }
 {
     Ran {
-        state: s,
+        state,
         taken: 0,
         count: 0,
     }
@@ -48,15 +38,17 @@ fn run_text(s: State, input: &[u8], line: &mut [u8]) -> Ran
     requires { (sound s ≡ true) × (is_printer (route s.connection Names-as-Host) ≡ true) × (is_text s.reader.stage ≡ true) × (listens s.calling s.connection ≡ false) }
     ensures { Runs Names-as-Host s input.now line.old line.new result }
 {
-    let settings = s.settings;
-    let sender = s.sender;
-    let x = sender::runs::send(settings, sender, Asks::Text, Until::Byte(b'/'), input, line);
-    let after = x.sender;
+    let until = Until::Byte(b'/');
+    let x = sender::runs::send(s.settings, s.sender, Asks::Text, until, input, line);
     if x.taken == 0 {
         return unmoved(s);
     }
     Ran {
-        state: with_sender(with_reader(s, Reader::idle()), after),
+        state: State {
+            sender: x.sender,
+            reader: Reader::idle(),
+            ..s
+        },
         taken: x.taken,
         count: x.count,
     }
@@ -67,18 +59,10 @@ pub fn take_text(s: State, input: &[u8], line: &mut [u8]) -> Ran
     requires { sound s ≡ true }
     ensures { Runs Names-as-Host s input.now line.old line.new result }
 {
-    let connection = s.connection;
-    let reader = s.reader;
-    let stage = reader.stage;
-    if is_heard(s) {
+    if is_heard(s) || !prints(s.connection, Stream::Host) || !is_text(s.reader.stage) {
         return unmoved(s);
     }
-    if prints(connection, Stream::Host) {
-        if is_text(stage) {
-            return run_text(s, input, line);
-        }
-    }
-    unmoved(s)
+    run_text(s, input, line)
 }
 
 // TU codes to the printer.
@@ -86,21 +70,14 @@ fn run_codes(s: State, codes: &[u8], line: &mut [u8]) -> Ran
     requires { (sound s ≡ true) × (is_printer (route s.connection Names-as-Tu) ≡ true) × (listens s.calling s.connection ≡ false) }
     ensures { Runs Names-as-Tu s codes.now line.old line.new result }
 {
-    let settings = s.settings;
-    let sender = s.sender;
-    let case = s.incoming;
-    let x = sender::runs::send(
-        settings,
-        sender,
-        Asks::Codes(case),
-        Until::Above(31),
-        codes,
-        line,
-    );
-    let after = x.sender;
-    let asks = x.asks;
+    let asks = Asks::Codes(s.incoming);
+    let x = sender::runs::send(s.settings, s.sender, asks, Until::Above(31), codes, line);
     Ran {
-        state: with_sender(with_incoming(s, asks.case()), after),
+        state: State {
+            sender: x.sender,
+            incoming: x.asks.case(),
+            ..s
+        },
         taken: x.taken,
         count: x.count,
     }
@@ -111,12 +88,8 @@ pub fn take_codes(s: State, codes: &[u8], line: &mut [u8]) -> Ran
     requires { sound s ≡ true }
     ensures { Runs Names-as-Tu s codes.now line.old line.new result }
 {
-    let connection = s.connection;
-    if is_heard(s) {
+    if is_heard(s) || !prints(s.connection, Stream::Tu) {
         return unmoved(s);
     }
-    if prints(connection, Stream::Tu) {
-        return run_codes(s, codes, line);
-    }
-    unmoved(s)
+    run_codes(s, codes, line)
 }

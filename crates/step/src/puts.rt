@@ -14,7 +14,7 @@ pub fn put_one(s: State, b: u8, out: &mut [u8]) -> Option<Took>
 
 impl Took {
     // The first buffer's part is all there is.
-    pub fn in_first(self) -> Taken
+    pub(crate) fn in_first(self) -> Taken
         ensures { result ≡ in_first self }
     {
         Taken {
@@ -25,7 +25,7 @@ impl Took {
     }
 
     // The second buffer's part is all there is.
-    pub fn in_second(self) -> Taken
+    pub(crate) fn in_second(self) -> Taken
         ensures { result ≡ in_second self }
     {
         Taken {
@@ -38,7 +38,7 @@ impl Took {
 
 impl Taken {
     // No output.
-    pub fn nothing(state: State) -> Taken
+    pub(crate) fn nothing(state: State) -> Taken
         ensures { result ≡ nothing state }
     {
         Taken {

@@ -10,7 +10,7 @@ use sender::{Record, Sender};
 use settings::{Setup, Stored};
 
 // The sender on connection: the record unknown, no last item.
-pub fn fresh_sender() -> Sender
+pub(crate) fn fresh_sender() -> Sender
     ensures { result ≡ fresh }
 {
     Sender {

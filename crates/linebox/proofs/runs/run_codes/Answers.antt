@@ -5,5 +5,4 @@ use Rattle.linebox.proofs.runs.run_codes.Goals as goal
 pub returns : goal.returns
 returns c =
     let a = c.args in
-    rw (c.with_sender.ensures, c.with_incoming.ensures, c.case_asked.ensures)
-    (codes_run a.s c.requires.0 c.requires.1 c.requires.2 a.codes.now a.line.now _ c.send-x.result c.send-x.ensures)
+    rw c.case.ensures (codes_run a.s c.requires.0 c.requires.1 c.requires.2 a.codes.now a.line.now _ c.send-x.result c.send-x.ensures)

@@ -10,5 +10,4 @@ returns-then-x-eq0 c =
 pub returns : goal.returns
 returns c =
     let a = c.args in
-    rw (c.with_sender.ensures, c.with_reader.ensures, c.idle.ensures)
-    (text_runs a.s c.requires.0 c.requires.1 c.requires.2 c.requires.3 a.input.now a.line.now _ c.send-x.result c.send-x.ensures c.if-x-eq0.false)
+    rw c.idle.ensures (text_runs a.s c.requires.0 c.requires.1 c.requires.2 c.requires.3 a.input.now a.line.now _ c.send-x.result c.send-x.ensures c.if-x-eq0.false)

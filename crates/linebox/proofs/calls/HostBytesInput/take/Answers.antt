@@ -1,85 +1,112 @@
--- `linebox::calls::HostBytes` meets its contract. The invariant: the bytes taken and what they wrote stand before what the rest gives; the
--- state stays sound.
-use Rattle.std.proofs.Common.{◌≡◌, ◌+◌, ◌-◌, ◌<◌, length, get_or, refl, arith}
-use borrow.Author.Tests.{not-true, not-false}
+-- `take` of `linebox::calls::HostBytes` meets its contract. The invariant: the bytes taken and what they wrote stand before what the rest gives;
+-- the state stays sound.
+use Rattle.std.proofs.Common.{◌≡◌, ◌+◌, ◌-◌, ◌<◌, length, get_or, take, drop, refl, sym, ◌∙◌, arith}
+use borrow.Author.Tests.{eqb-true}
 use borrow.Rule.Slice.PartMut.{put_mid}
+use Rattle.laws.proofs.Tail.{to_end}
+use Rattle.command.proofs.Runs.{run_within}
 use Rattle.step.specs.State.{with_reader}
 use Rattle.step.specs.Step.{hosted, step}
-use Rattle.step.proofs.Stays.{sound_parts}
-use Rattle.linebox.specs.Names.{Host, All}
-use Rattle.linebox.proofs.Turns.{Reached, reached, ran, kept_on, read_next, stops, all_taken, stays, turn}
+use Rattle.linebox.specs.Names.{Host}
+use Rattle.linebox.proofs.Turns.{Reached, reached, ran, kept_on, read_next, all_taken, stays, turn, uncons}
 use Rattle.linebox.proofs.calls.HostBytesInput.take.Goals as goal
-use Rattle.linebox.proofs.calls.HostBytesInput.take.Goals.{After-with_reader-state}
+use Rattle.linebox.proofs.calls.HostBytesInput.take.Goals.{After-run-kept}
 
 -- after a run of text, and a run of bytes that the command reader keeps
-kept_of : (d : After-with_reader-state)
+kept_of : (d : After-run-kept)
     → let a = d.args in
-    let l = d.loop-taken in
+    let l = d.loop-rest in
     let x = d.take_text-text.result in
-    Reached Host a.start a.input.now a.line.now a.host.now d.with_reader-state.result (l.taken + x.taken + d.run-kept.result.taken) (put_mid l.one (length l.line - l.one) l.line d.take_text-text.new.line) l.host (l.one + x.count) l.two
+    let u = d.run-kept.result in
+    let left = take (length l.rest.now - x.taken) (drop x.taken l.rest.now) in
+    Reached Host a.start a.input.now a.line.now a.host.now (with_reader x.state u.reader) (take (length left - u.taken) (drop u.taken left)) (put_mid l.one (length l.line - l.one) l.line d.take_text-text.new.line) l.host (l.one + x.count) l.two
 kept_of d =
     let a = d.args in
-    let l = d.loop-taken in
+    let l = d.loop-rest in
     let x = d.take_text-text.result in
-    let text = ran Host a.start a.input.now a.line.now a.host.now l.state l.taken l.line l.host d.take_text-text.new.line l.one l.two x l.invariant d.take_text-text.ensures in
-    rw d.with_reader-state.ensures (kept_on a.start a.input.now a.line.now a.host.now x.state (l.taken + x.taken) _ l.host (l.one + x.count) l.two text d.run-kept.result d.run-kept.ensures)
+    let u = d.run-kept.result in
+    let left = take (length l.rest.now - x.taken) (drop x.taken l.rest.now) in
+    let text = rw (← to_end l.rest.now x.taken) at (ran Host a.start a.input.now a.line.now a.host.now l.state l.rest.now l.line l.host d.take_text-text.new.line l.one l.two x l.invariant d.take_text-text.ensures) in
+    rw (to_end left u.taken) (kept_on a.start a.input.now a.line.now a.host.now x.state left _ l.host (l.one + x.count) l.two text u d.run-kept.ensures)
 
 -- what the next byte does
-next_of : (d : After-with_reader-state)
-    → let a = d.args in
-    let u = d.run-kept.result in
-    let s = d.with_reader-state.result in
-    let n = d.loop-taken.taken + d.take_text-text.result.taken + u.taken in
-    n < length a.input.now → hosted (with_reader s u.next.reader) s.reader.values u.next.out ≡ step Host s (get_or a.input.now n 0)
-next_of d lt =
+next_of : (d : After-run-kept)
+    → let l = d.loop-rest in
     let x = d.take_text-text.result in
-    rw d.with_reader-state.ensures (read_next x.state d.args.input.now (d.loop-taken.taken + x.taken) d.run-kept.result d.run-kept.ensures lt)
+    let u = d.run-kept.result in
+    let left = take (length l.rest.now - x.taken) (drop x.taken l.rest.now) in
+    let next = take (length left - u.taken) (drop u.taken left) in
+    0 < length next → hosted (with_reader (with_reader x.state u.reader) u.next.reader) u.reader.values u.next.out ≡ step Host (with_reader x.state u.reader) (get_or next 0 0)
+next_of d some =
+    let l = d.loop-rest in
+    let x = d.take_text-text.result in
+    let u = d.run-kept.result in
+    let left = take (length l.rest.now - x.taken) (drop x.taken l.rest.now) in
+    let next = take (length left - u.taken) (drop u.taken left) in
+    read_next x.state left u (get_or next 0 0) (drop 1 next) d.run-kept.ensures (sym (to_end left u.taken) ∙ uncons next some)
 
-pub loop-taken-init : goal.loop-taken-init
-loop-taken-init c =
+pub loop-rest-init : goal.loop-rest-init
+loop-rest-init c =
     let a = c.args in
     reached Host a.start a.input.now a.line.now a.host.now c.requires
 
-pub overflow_add-taken-in-loop-taken : goal.overflow_add-taken-in-loop-taken
-overflow_add-taken-in-loop-taken c =
-    let k = kept_of (goal.at.overflow_add-taken-in-loop-taken c).After-with_reader-state in
-    omega (arith, k.within, c.well_formed)
+pub slice_bounds-rest-count-in-loop-rest : goal.slice_bounds-rest-count-in-loop-rest
+slice_bounds-rest-count-in-loop-rest c = rw c.run-kept.ensures (run_within _ _)
 
-pub returns-then-input-taken : goal.returns-then-input-taken
-returns-then-input-taken c =
-    let l = c.loop-taken in
+pub slice_bounds-rest-start-in-loop-rest : goal.slice_bounds-rest-start-in-loop-rest
+slice_bounds-rest-start-in-loop-rest c = rw c.run-kept.ensures (run_within _ _)
+
+pub returns-in_default : goal.returns-in_default
+returns-in_default c =
+    let l = c.loop-rest in
     let a = c.args in
     let x = c.take_text-text.result in
-    let n = l.taken + x.taken + c.run-kept.result.taken in
-    rw c.ended.ensures
-    (stops Host a.start a.input.now a.line.now a.host.now c.with_reader-state.result n _ l.host (l.one + x.count) l.two All (kept_of (goal.at.returns-then-input-taken c).After-with_reader-state)
-    (all_taken Host a.start a.input.now a.line.now a.host.now c.with_reader-state.result n _ _ c.if-input-taken.true))
+    rw c.ended.ensures (all_taken Host a.start a.input.now a.line.now a.host.now (with_reader x.state c.run-kept.result.reader) _ _ l.host (l.one + x.count) l.two (omega (arith, c.in_default.len_below)) (kept_of (goal.at.returns-in_default c).After-run-kept))
 
-pub put_read-x-requires : goal.put_read-x-requires
-put_read-x-requires c = (sound_parts c.with_reader-state.result (kept_of (goal.at.put_read-x-requires c).After-with_reader-state).is_sound).held
-
-pub returns-then-not-x : goal.returns-then-not-x
-returns-then-not-x c =
-    let l = c.loop-taken in
+pub returns-in_default-put_read : goal.returns-in_default-put_read
+returns-in_default-put_read c =
+    let l = c.loop-rest in
     let a = c.args in
     let x = c.take_text-text.result in
-    let w = (goal.at.returns-then-not-x c).After-with_reader-state in
-    rw c.ended-then-not-x.ensures
-    (stays Host a.start a.input.now a.line.now a.host.now c.with_reader-state.result (l.taken + x.taken + c.run-kept.result.taken) c.if-input-taken.false _ l.host _ _ (l.one + x.count) l.two _ (kept_of w) refl (rw (next_of w c.if-input-taken.false) at c.put_read-x.ensures) (not-true _ c.if-not-x.true))
+    let w = (goal.at.returns-in_default-put_read c).After-run-kept in
+    let some = c.in-len1-up.len_at_least in
+    rw c.ended-in_default-put_read.ensures
+    (stays Host a.start a.input.now a.line.now a.host.now (with_reader x.state c.run-kept.result.reader) _ _ _ (uncons _ some) _ l.host (l.one + x.count) l.two (kept_of w) _ _ refl (rw (next_of w some) at c.in_default-put_read.ensures))
+
+pub overflow_add-one-in-loop-rest : goal.overflow_add-one-in-loop-rest
+overflow_add-one-in-loop-rest c =
+    let l = c.loop-rest in
+    let a = c.args in
+    let x = c.take_text-text.result in
+    let w = (goal.at.overflow_add-one-in-loop-rest c).After-run-kept in
+    let some = c.in-len1-up.len_at_least in
+    let t = turn Host a.start a.input.now a.line.now a.host.now (with_reader x.state c.run-kept.result.reader) _ _ _ (uncons _ some) _ l.host (l.one + x.count) l.two (kept_of w) _ _ c.in-Some.x refl (rw (next_of w some) at c.in-Some.ensures) in
+    omega (arith, t.one.room, c.well_formed)
 
 pub overflow_add-two : goal.overflow_add-two
 overflow_add-two c =
-    let l = c.loop-taken in
+    let l = c.loop-rest in
     let a = c.args in
     let x = c.take_text-text.result in
-    let w = (goal.at.overflow_add-two c).After-with_reader-state in
-    let t = turn Host a.start a.input.now a.line.now a.host.now c.with_reader-state.result (l.taken + x.taken + c.run-kept.result.taken) c.if-input-taken.false _ l.host _ _ (l.one + x.count) l.two _ (kept_of w) refl (rw (next_of w c.if-input-taken.false) at c.put_read-x.ensures) (not-false _ c.if-not-x.false) in
+    let w = (goal.at.overflow_add-two c).After-run-kept in
+    let some = c.in-len1-up.len_at_least in
+    let t = turn Host a.start a.input.now a.line.now a.host.now (with_reader x.state c.run-kept.result.reader) _ _ _ (uncons _ some) _ l.host (l.one + x.count) l.two (kept_of w) _ _ c.in-Some.x refl (rw (next_of w some) at c.in-Some.ensures) in
     omega (arith, t.two.room, c.well_formed)
 
-pub loop-taken-preserved : goal.loop-taken-preserved
-loop-taken-preserved c =
-    let l = c.loop-taken in
+pub loop-rest-preserved : goal.loop-rest-preserved
+loop-rest-preserved c =
+    let l = c.loop-rest in
     let a = c.args in
     let x = c.take_text-text.result in
-    let w = (goal.at.loop-taken-preserved c).After-with_reader-state in
-    turn Host a.start a.input.now a.line.now a.host.now c.with_reader-state.result (l.taken + x.taken + c.run-kept.result.taken) c.if-input-taken.false _ l.host _ _ (l.one + x.count) l.two _ (kept_of w) refl (rw (next_of w c.if-input-taken.false) at c.put_read-x.ensures) (not-false _ c.if-not-x.false)
+    let u = c.run-kept.result in
+    let w = (goal.at.loop-rest-preserved c).After-run-kept in
+    let some = c.in-len1-up.len_at_least in
+    let left = take (length l.rest.now - x.taken) (drop x.taken l.rest.now) in
+    rw (to_end (take (length left - u.taken) (drop u.taken left)) 1)
+    (turn Host a.start a.input.now a.line.now a.host.now (with_reader x.state u.reader) _ _ _ (uncons _ some) _ l.host (l.one + x.count) l.two (kept_of w) _ _ c.in-Some.x refl (rw (next_of w some) at c.in-Some.ensures))
+
+pub returns : goal.returns
+returns c =
+    let l = c.loop-rest in
+    let a = c.args in
+    rw c.ended-2.ensures (all_taken Host a.start a.input.now a.line.now a.host.now l.state l.rest.now l.line l.host l.one l.two (eqb-true _ _ (sym c.is_empty.ensures ∙ c.loop-rest-test.false)) l.invariant)

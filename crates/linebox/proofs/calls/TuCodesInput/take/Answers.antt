@@ -1,66 +1,64 @@
--- `linebox::calls::TuCodes` meets its contract. The invariant: the codes taken and what they wrote stand before what the rest gives; the
--- state stays sound.
-use Rattle.std.proofs.Common.{◌+◌, ◌-◌, length, arith}
-use borrow.Author.Tests.{lt-ltb, le-ltb, not-true, not-false}
+-- `take` of `linebox::calls::TuCodes` meets its contract. The invariant: the codes taken and what they wrote stand before what the rest gives;
+-- the state stays sound.
+use Rattle.std.proofs.Common.{◌+◌, ◌-◌, length, take, drop, sym, ◌∙◌, arith}
+use borrow.Author.Tests.{lt-ltb, le-ltb, eqb-true}
 use borrow.Rule.Slice.PartMut.{put_mid}
-use Rattle.linebox.specs.Names.{Tu, All, NoCode}
-use Rattle.linebox.proofs.Turns.{Reached, reached, ran, stops, all_taken, no_code, stays, turn}
+use Rattle.laws.proofs.Tail.{to_end}
+use Rattle.linebox.specs.Names.{Tu}
+use Rattle.linebox.proofs.Turns.{Reached, reached, ran, all_taken, no_code, stays, turn, uncons}
 use Rattle.linebox.proofs.calls.TuCodesInput.take.Goals as goal
 use Rattle.linebox.proofs.calls.TuCodesInput.take.Goals.{After-take_codes-run}
 
 -- after a run of codes
 run_of : (d : After-take_codes-run)
     → let a = d.args in
-    let l = d.loop-taken in
+    let l = d.loop-rest in
     let x = d.take_codes-run.result in
-    Reached Tu a.start a.codes.now a.line.now a.host.now x.state (l.taken + x.taken) (put_mid l.one (length l.line - l.one) l.line d.take_codes-run.new.line) l.host (l.one + x.count) l.two
+    Reached Tu a.start a.codes.now a.line.now a.host.now x.state (take (length l.rest.now - x.taken) (drop x.taken l.rest.now)) (put_mid l.one (length l.line - l.one) l.line d.take_codes-run.new.line) l.host (l.one + x.count) l.two
 run_of d =
     let a = d.args in
-    let l = d.loop-taken in
-    ran Tu a.start a.codes.now a.line.now a.host.now l.state l.taken l.line l.host _ l.one l.two d.take_codes-run.result l.invariant d.take_codes-run.ensures
+    let l = d.loop-rest in
+    let x = d.take_codes-run.result in
+    rw (to_end l.rest.now x.taken) (ran Tu a.start a.codes.now a.line.now a.host.now l.state l.rest.now l.line l.host _ l.one l.two x l.invariant d.take_codes-run.ensures)
 
-pub loop-taken-init : goal.loop-taken-init
-loop-taken-init c =
+pub loop-rest-init : goal.loop-rest-init
+loop-rest-init c =
     let a = c.args in
     reached Tu a.start a.codes.now a.line.now a.host.now c.requires
 
-pub returns-then-codes-taken : goal.returns-then-codes-taken
-returns-then-codes-taken c =
-    let l = c.loop-taken in
+pub returns-in_default : goal.returns-in_default
+returns-in_default c =
+    let l = c.loop-rest in
     let a = c.args in
     let x = c.take_codes-run.result in
-    rw c.ended.ensures
-    (stops Tu a.start a.codes.now a.line.now a.host.now x.state (l.taken + x.taken) _ l.host (l.one + x.count) l.two All (run_of (goal.at.returns-then-codes-taken c).After-take_codes-run)
-    (all_taken Tu a.start a.codes.now a.line.now a.host.now x.state (l.taken + x.taken) _ _ c.if-codes-taken.true))
+    rw c.ended.ensures (all_taken Tu a.start a.codes.now a.line.now a.host.now x.state _ _ l.host (l.one + x.count) l.two (omega (arith, c.in_default.len_below)) (run_of (goal.at.returns-in_default c).After-take_codes-run))
 
 pub returns-then-code-gt31 : goal.returns-then-code-gt31
 returns-then-code-gt31 c =
-    let l = c.loop-taken in
+    let l = c.loop-rest in
     let a = c.args in
     let x = c.take_codes-run.result in
     rw c.ended-then-code-gt31.ensures
-    (stops Tu a.start a.codes.now a.line.now a.host.now x.state (l.taken + x.taken) _ l.host (l.one + x.count) l.two NoCode (run_of (goal.at.returns-then-code-gt31 c).After-take_codes-run)
-    (no_code Tu a.start a.codes.now a.line.now a.host.now x.state (l.taken + x.taken) c.if-codes-taken.false _ _ (lt-ltb _ _ c.if-code-gt31.true)))
+    (no_code Tu a.start a.codes.now a.line.now a.host.now x.state _ _ _ (uncons _ (omega (arith, c.in-len1-up.len_at_least))) _ l.host (l.one + x.count) l.two (run_of (goal.at.returns-then-code-gt31 c).After-take_codes-run) (lt-ltb _ _ c.if-code-gt31.true))
 
-pub returns-then-not-x : goal.returns-then-not-x
-returns-then-not-x c =
-    let l = c.loop-taken in
+pub returns-in_default-put_tu : goal.returns-in_default-put_tu
+returns-in_default-put_tu c =
+    let l = c.loop-rest in
     let a = c.args in
     let x = c.take_codes-run.result in
-    rw c.ended-then-not-x.ensures
-    (stays Tu a.start a.codes.now a.line.now a.host.now x.state (l.taken + x.taken) c.if-codes-taken.false _ l.host _ _ (l.one + x.count) l.two _ (run_of (goal.at.returns-then-not-x c).After-take_codes-run) (le-ltb _ _ c.if-code-gt31.false) c.put_tu-x.ensures (not-true _ c.if-not-x.true))
+    rw c.ended-in_default-put_tu.ensures
+    (stays Tu a.start a.codes.now a.line.now a.host.now x.state _ _ _ (uncons _ (omega (arith, c.in-len1-up.len_at_least))) _ l.host (l.one + x.count) l.two (run_of (goal.at.returns-in_default-put_tu c).After-take_codes-run) _ _ (le-ltb _ _ c.if-code-gt31.false) c.in_default-put_tu.ensures)
 
-pub overflow_add-two : goal.overflow_add-two
-overflow_add-two c =
-    let l = c.loop-taken in
+pub loop-rest-preserved : goal.loop-rest-preserved
+loop-rest-preserved c =
+    let l = c.loop-rest in
     let a = c.args in
     let x = c.take_codes-run.result in
-    let t = turn Tu a.start a.codes.now a.line.now a.host.now x.state (l.taken + x.taken) c.if-codes-taken.false _ l.host _ _ (l.one + x.count) l.two _ (run_of (goal.at.overflow_add-two c).After-take_codes-run) (le-ltb _ _ c.if-code-gt31.false) c.put_tu-x.ensures (not-false _ c.if-not-x.false) in
-    omega (arith, t.two.room, c.well_formed)
+    rw (to_end (take (length l.rest.now - x.taken) (drop x.taken l.rest.now)) 1)
+    (turn Tu a.start a.codes.now a.line.now a.host.now x.state _ _ _ (uncons _ (omega (arith, c.in-len1-up.len_at_least))) _ l.host (l.one + x.count) l.two (run_of (goal.at.loop-rest-preserved c).After-take_codes-run) _ _ c.in-Some.x (le-ltb _ _ c.if-code-gt31.false) c.in-Some.ensures)
 
-pub loop-taken-preserved : goal.loop-taken-preserved
-loop-taken-preserved c =
-    let l = c.loop-taken in
+pub returns : goal.returns
+returns c =
+    let l = c.loop-rest in
     let a = c.args in
-    let x = c.take_codes-run.result in
-    turn Tu a.start a.codes.now a.line.now a.host.now x.state (l.taken + x.taken) c.if-codes-taken.false _ l.host _ _ (l.one + x.count) l.two _ (run_of (goal.at.loop-taken-preserved c).After-take_codes-run) (le-ltb _ _ c.if-code-gt31.false) c.put_tu-x.ensures (not-false _ c.if-not-x.false)
+    rw c.ended-2.ensures (all_taken Tu a.start a.codes.now a.line.now a.host.now l.state l.rest.now l.line l.host l.one l.two (eqb-true _ _ (sym c.is_empty.ensures ∙ c.loop-rest-test.false)) l.invariant)
