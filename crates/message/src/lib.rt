@@ -37,6 +37,20 @@ impl Phase {
     {
         matches!(self, Phase::Rest(0))
     }
+
+    // One digit more of a number that is begun, of this value so far.
+    fn more(self, v: u8, b: u8) -> Scan
+        requires { (48 ≤ b) × (b ≤ 57) }
+        ensures { result ≡ more self v b }
+    {
+        if v == 0 {
+            return Scan::Bad;
+        }
+        match u8::try_from(u16::from(v) * 10 + u16::from(b - b'0')) {
+            Ok(n) => Scan::In(self, n),
+            Err(_) => Scan::Bad,
+        }
+    }
 }
 
 // How far the numbers of a message are read, byte by byte. Opening: a comma has to come. Comma: a digit has to come. In: in a
@@ -58,7 +72,7 @@ impl Scan {
             Scan::Opening if b == b',' => Scan::Comma(Phase::First),
             Scan::Comma(p) if b.is_ascii_digit() => Scan::In(p, b - b'0'),
             Scan::In(p, v) if b == b',' => Scan::Comma(p.ended(v)),
-            Scan::In(p, v) if b.is_ascii_digit() => more(p, v, b),
+            Scan::In(p, v) if b.is_ascii_digit() => p.more(v, b),
             _ => Scan::Bad,
         }
     }
@@ -71,20 +85,6 @@ impl Scan {
     }
 }
 
-// One digit more of a number that is begun.
-fn more(p: Phase, v: u8, b: u8) -> Scan
-    requires { (48 ≤ b) × (b ≤ 57) }
-    ensures { result ≡ more p v b }
-{
-    if v == 0 {
-        return Scan::Bad;
-    }
-    match u8::try_from(u16::from(v) * 10 + u16::from(b - b'0')) {
-        Ok(n) => Scan::In(p, n),
-        Err(_) => Scan::Bad,
-    }
-}
-
 // The stretch of a message, from its hyphen to its last digit.
 #[derive(Clone, Copy)]
 pub struct Place {
@@ -92,8 +92,8 @@ pub struct Place {
     pub len: usize,
 }
 
-// The six bytes that every message begins with.
-const FRONT: [u8; 6] = *b"\r\n-.TC";
+// The four bytes that every message begins with after its CR LF.
+const MARK: [u8; 4] = *b"-.TC";
 
 // How many digits a number has.
 fn width(n: u8) -> usize
@@ -160,9 +160,10 @@ fn put_message(ns: &[u8], out: &mut [u8]) -> usize
     requires { length (framed ns.now) ≤ length out.old }
     ensures { Put out.old 0 (framed ns.now) out.new result }
 {
-    let a = put(&FRONT, out, 0);
-    let b = put_numbers(b',', ns, out, a);
-    put(b"\r\n", out, b)
+    let a = put(b"\r\n", out, 0);
+    let b = put(&MARK, out, a);
+    let c = put_numbers(b',', ns, out, b);
+    put(b"\r\n", out, c)
 }
 
 // The message of these numbers at the front of `out`, and its length; nothing, and `out` as it was, where it has no room for it.
@@ -198,7 +199,10 @@ fn numbers_at(s: &[u8]) -> Option<usize>
 fn message_at(s: &[u8]) -> Option<usize>
     ensures { result ≡ message_at s.now }
 {
-    numbers_at(s.strip_prefix(&FRONT)?)
+    let [b'\r', b'\n', rest @ ..] = s else {
+        return None;
+    };
+    numbers_at(rest.strip_prefix(&MARK)?)
 }
 
 // Where the earliest complete message stands, from its hyphen to its last digit, if one does.
