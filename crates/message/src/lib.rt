@@ -96,6 +96,7 @@ pub struct Place {
 const MARK: [u8; 4] = *b"-.TC";
 
 // How many digits a number has.
+#[tactic(auto, unfolding(crate::specs::Message::digits))]
 fn width(n: u8) -> usize
     ensures { result ≡ length (digits n) }
 {
@@ -117,6 +118,7 @@ pub fn put(word: &[u8], out: &mut [u8], at: usize) -> usize
 }
 
 // A mark and the digits of a number from `at` in `out`. Gives the place after them.
+#[tactic(auto, unfolding(crate::specs::Message::digits))]
 fn put_number(mark: u8, n: u8, out: &mut [u8], at: usize) -> usize
     requires { at + length (mark ∷ digits n) ≤ length out.old }
     ensures { Put out.old at (mark ∷ digits n) out.new result }
@@ -145,6 +147,7 @@ pub fn put_numbers(mark: u8, ns: &[u8], out: &mut [u8], at: usize) -> usize
 }
 
 // The length of the message of these numbers, if `room` is enough for it.
+#[tactic(auto, using(crate::proofs::Digits::digits_few))]
 fn size(ns: &[u8], room: usize) -> Option<usize>
     ensures { result ≡ made_count ns.now room }
 {
@@ -182,6 +185,7 @@ fn ends_at(s: &[u8], st: Scan, k: usize) -> Option<usize>
 }
 
 // How many bytes the numbers take that these begin with, up to a CR LF, if they are those of a message.
+#[tactic(auto, using(crate::proofs::Turns::numbers_next))]
 fn numbers_at(s: &[u8]) -> Option<usize>
     ensures { result ≡ numbers_from Scan.Opening 0 s.now }
 {
