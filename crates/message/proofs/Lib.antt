@@ -1,6 +1,5 @@
 pub mod Digits
 pub mod Sizes
-pub mod Room
 pub mod Puts
 pub mod Prefix
 pub mod Turns

@@ -1,16 +1,12 @@
 -- One thing put after another.
 -- Assumes nothing.
 use Prim.Native.Nat.{ℕ, ◌+◌, ◌≤◌}
-use mathlib.Core.Path.{sym, ◌∙◌}
-use mathlib.Core.List.{List, [], ◌++◌}
-use native.Mathlib.Nat.{add-zero, add_assoc}
+use mathlib.Core.Path.{◌∙◌}
+use mathlib.Core.List.{List, ◌++◌}
+use native.Mathlib.Nat.{add_assoc}
 use lib.ListN.{length, length-append}
-use Rattle.laws.proofs.Tail.{written_none, written_more}
+use Rattle.laws.proofs.Tail.{written_more}
 use Rattle.message.specs.Made.{Put}
-
--- nothing is put where the buffer is as it was
-pub put_none : (old : List ℕ) (at : ℕ) → Put old at [] old at
-put_none old at = record { place = sym (add-zero at); contents = written_none old at }
 
 -- what is put next follows what was put
 pub put_next : (old new out more out' : List ℕ) (at k k' : ℕ) → at + length new ≤ length old → Put old at new out k → Put out k more out' k' → Put old at (new ++ more) out' k'

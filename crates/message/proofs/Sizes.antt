@@ -5,19 +5,16 @@ use mathlib.Core.Path.{◌≡◌, refl, ap}
 use mathlib.Core.List.{List, [], ◌∷◌, ◌++◌, append_assoc, append-nil}
 use native.Mathlib.Numerals.{add-one}
 use native.Mathlib.Omega.{arith}
-use lib.ListN.{length, get_or, take, drop, take-append-drop, drop_of_length-le, length-append}
+use lib.ListN.{length, get_or, take, drop, take-append-drop, length-append}
 use lib.Seq.{drop-cons, take-suc}
 use Rattle.message.specs.Message.{digits, marked, numbers, framed}
 use Rattle.message.proofs.Digits.{digits_few}
 
 module _ (m : ℕ) where
-  pub next_number : (ns : List ℕ) (i : ℕ) → i < length ns → marked m (drop i ns) ≡ (m ∷ digits (get_or ns i 0)) ++ marked m (drop (i + 1) ns)
+  next_number : (ns : List ℕ) (i : ℕ) → i < length ns → marked m (drop i ns) ≡ (m ∷ digits (get_or ns i 0)) ++ marked m (drop (i + 1) ns)
   next_number ns i h = rw (drop-cons ns i 0 h, add-one)
 
-  pub no_number : (ns : List ℕ) (i : ℕ) → length ns ≤ i → marked m (drop i ns) ≡ []
-  no_number ns i h = rw (drop_of_length-le ns h)
-
-  pub next_length : (ns : List ℕ) (i : ℕ) → i < length ns → length (marked m (drop i ns)) ≡ length (m ∷ digits (get_or ns i 0)) + length (marked m (drop (i + 1) ns))
+  next_length : (ns : List ℕ) (i : ℕ) → i < length ns → length (marked m (drop i ns)) ≡ length (m ∷ digits (get_or ns i 0)) + length (marked m (drop (i + 1) ns))
   next_length ns i h = rw (next_number ns i h) (length-append (m ∷ digits (get_or ns i 0)) (marked m (drop (i + 1) ns)))
 
   pub marked_append : (ms ns : List ℕ) → marked m (ms ++ ns) ≡ marked m ms ++ marked m ns
