@@ -4,9 +4,16 @@ use Prim.Native.Nat.{ℕ}
 use mathlib.Core.Path.{◌≡◌, refl}
 use mathlib.Core.List.{List, [], ◌∷◌, ◌++◌}
 use lib.ListN.{length, set, replicate}
-use Rattle.spelling.specs.Names.{Stage, Text, Swallow, Held, Begun, Lettered, Typed, Fields, Discard, Settings, Calling, Run, Off, Called, On, Motor, State}
-use Rattle.spelling.specs.Back.{Has, two}
-use Rattle.spelling.specs.Spelling.{part, case_byte, known_byte, last_byte, offsets, sets_at, string_bytes, connection_bytes, column_bytes, sender_bytes, stage_bytes, run_bytes, heard_bytes, signals_bytes, spelt, puts}
+use Rattle.spelling.specs.Names.{Stage, Text, Swallow, Held, Begun, Lettered, Typed, Fields, Discard, Settings, Calling, Run, Off, Called, On, Motor, State, Option, Some, None}
+use Rattle.spelling.specs.Spelling.{part, case_byte, known_byte, last_byte, offsets, sets_at, string_bytes, connection_bytes, column_bytes, stage_bytes, run_bytes, heard_bytes, signals_bytes, spelt, puts}
+
+-- so many bytes
+abbrev pub Has : ℕ → List ℕ → Type 0
+Has n xs = part xs 0 n ≡ xs
+
+pub two : (c : Option ℕ) → Has 2 (column_bytes c)
+two None = refl
+two (Some n) = refl
 
 pub eight : (o : Settings) → Has 8 (string_bytes o)
 eight o = refl
@@ -39,7 +46,8 @@ module _ (s : State) where
 
   abbrev filled : List ℕ → List ℕ → List ℕ → List ℕ → List ℕ → List ℕ → List ℕ
   filled x y z r h w =
-      let front = puts (puts (sets_at (puts (replicate 128 0) 6 x) offsets 0 s.settings.values) 14 (connection_bytes s.connection)) 17 (sender y) in
+      let fore = puts (puts (sets_at (puts (replicate 128 0) 6 x) offsets 0 s.settings.values) 14 (connection_bytes s.connection)) 17 (known_byte s.sender.held.case ∷ []) in
+      let front = puts (puts fore 18 y) 20 (last_byte s.sender.last ∷ []) in
       let middle = puts (puts (set (set front 21 (case_byte s.reading)) 22 (case_byte s.incoming)) 23 z) 27 (part s.reader.values 0 11) in
       puts (puts (puts (set middle 39 s.calling.power) 64 w) 44 r) 56 h
 
@@ -62,10 +70,12 @@ module _ (s : State) where
 
   -- what each part leaves, put over what the parts before it left
   pub put_all :
-      {a b d e f g h i j k : List ℕ}
+      {a b b₁ b₂ d e f g h i j k : List ℕ}
       → a ≡ sets_at (puts (replicate 128 0) 6 (string_bytes s.settings)) offsets 0 s.settings.values
       → b ≡ puts a 14 (connection_bytes s.connection)
-      → d ≡ puts b 17 (sender_bytes s.sender)
+      → b₁ ≡ puts b 17 (known_byte s.sender.held.case ∷ [])
+      → b₂ ≡ puts b₁ 18 (column_bytes s.sender.held.column)
+      → d ≡ puts b₂ 20 (last_byte s.sender.last ∷ [])
       → e ≡ puts d 21 (case_byte s.reading ∷ [])
       → f ≡ puts e 22 (case_byte s.incoming ∷ [])
       → g ≡ puts f 23 (stage_bytes s.reader.stage)
@@ -74,7 +84,7 @@ module _ (s : State) where
       → j ≡ puts i 44 (run_bytes s.motor.run)
       → k ≡ puts j 56 (heard_bytes s.motor)
       → k ≡ spelt s
-  put_all p q r t u v w x y z = rw (z, y, x, w, v, u, t, r, q, p) filled_spelt
+  put_all p q r₁ r₂ r t u v w x y z = rw (z, y, x, w, v, u, t, r, r₂, r₁, q, p) filled_spelt
 
   -- and bytes that are it are 128
   pub as_long : (b : List ℕ) → b ≡ spelt s → length b ≡ 128

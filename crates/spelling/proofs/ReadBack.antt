@@ -16,8 +16,8 @@ use Rattle.step.specs.State.{sound}
 use Rattle.step.proofs.Stays.{sound_parts}
 use Rattle.spelling.specs.Names.{Calling, Motor, State}
 use Rattle.spelling.specs.Spelling.{string_bytes, heard_bytes, signal_bytes, signals_bytes, spelt, column_of, stage_of, word_at, signals_of, run_of, state_of, spells, part}
-use Rattle.spelling.proofs.Parts.{eight, eight_heard, forty, two_run, four, laid}
-use Rattle.spelling.specs.Back.{Has, two, case_back, known_back, column_back, stage_back, run_back, all}
+use Rattle.spelling.proofs.Parts.{Has, two, eight, eight_heard, forty, two_run, four, laid}
+use Rattle.spelling.specs.Back.{case_back, known_back, column_back, stage_back, run_back, all}
 use Rattle.laws.proofs.Both.{both}
 use Rattle.laws.proofs.Same.{same_self}
 use Rattle.spelling.proofs.Same.{its_spelling}

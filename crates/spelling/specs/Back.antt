@@ -3,15 +3,15 @@
 use Prim.Native.Nat.{ℕ, zero, suc, ◌+◌, ◌-◌, ◌<◌}
 use mathlib.Core.Path.{◌≡◌, refl}
 use mathlib.Core.Bool.{Bool, true, false}
-use mathlib.Core.List.{List, [], ◌∷◌, ◌++◌}
+use mathlib.Core.List.{List, [], ◌∷◌}
 use native.Mathlib.Nat.{mod-eq_of_lt}
 use native.Mathlib.Omega.{arith}
 use borrow.Author.Tests.{leb-true, ne_eqb}
 use lib.Dec.{eqb}
 use lib.ListN.{get_or, length}
 use Rattle.motor.specs.Motor.{sound_run}
-use Rattle.spelling.specs.Names.{Case, Letters, Figures, Verb, Write, Read, Other, Form, Empty, Digits, Ex, Stage, Text, Swallow, Held, Begun, Lettered, Typed, Fields, Discard, Run, Off, Called, On, Sender, Option, Some, None}
-use Rattle.spelling.specs.Spelling.{part, sender_bytes, bit, case_byte, known_byte, last_byte, verb_byte, form_byte, column_bytes, stage_bytes, run_bytes, case_of, known_of, last_of, verb_of, form_of, column_of, stage_of, run_of}
+use Rattle.spelling.specs.Names.{Case, Letters, Figures, Verb, Write, Read, Other, Form, Empty, Digits, Ex, Stage, Text, Swallow, Held, Begun, Lettered, Typed, Fields, Discard, Run, Off, Called, On, Option, Some, None}
+use Rattle.spelling.specs.Spelling.{part, bit, case_byte, known_byte, verb_byte, form_byte, column_bytes, stage_bytes, run_bytes, case_of, known_of, verb_of, form_of, column_of, stage_of, run_of}
 
 bit_back : (b : Bool) → eqb (bit b) 1 ≡ b
 bit_back true = refl
@@ -29,14 +29,6 @@ known_back (Some Figures) = refl
 pub column_back : (c : Option ℕ) → column_of (get_or (column_bytes c) 0 0) (get_or (column_bytes c) 1 0) ≡ c
 column_back None = refl
 column_back (Some n) = refl
-
--- so many bytes
-abbrev pub Has : ℕ → List ℕ → Type 0
-Has n xs = part xs 0 n ≡ xs
-
-pub two : (c : Option ℕ) → Has 2 (column_bytes c)
-two None = refl
-two (Some n) = refl
 
 pub verb_back : (v : Verb) → verb_of (verb_byte v) ≡ v
 verb_back Write = refl
@@ -66,13 +58,6 @@ run_back (Called n) h =
     let d : n + 1 - 1 ≡ n = omega arith in
     rw (mod-eq_of_lt l, ne_eqb (n + 1) 0 m, d)
 run_back On h = refl
-
--- the record and the last item, by the column's two bytes
-pub sender_back : (x : Sender) → record { held = record { case = known_of (get_or (sender_bytes x) 0 0); column = column_of (get_or (sender_bytes x) 1 0) (get_or (sender_bytes x) 2 0) }; last = last_of (get_or (sender_bytes x) 3 0) } ≡ x
-sender_back x = go (column_bytes x.held.column) (two x.held.column) (column_back x.held.column)
-  where
-    go : (y : List ℕ) → Has 2 y → column_of (get_or y 0 0) (get_or y 1 0) ≡ x.held.column → record { held = record { case = known_of (known_byte x.held.case); column = column_of (get_or (y ++ last_byte x.last ∷ []) 0 0) (get_or (y ++ last_byte x.last ∷ []) 1 0) }; last = last_of (get_or (y ++ last_byte x.last ∷ []) 2 0) } ≡ x
-    go y e f = rw (← e) (simp (f, known_back))
 
 -- a list is its part from 0 on, as long as it is
 tail : (x : ℕ) (xs : List ℕ) (i n : ℕ) → part (x ∷ xs) (suc i) n ≡ part xs i n

@@ -7,6 +7,7 @@ use crate::save::save;
 use crate::spelled::get;
 use command::Reader;
 use motor::Motor;
+use sender::{Record, Sender};
 use settings::{Calling, Settings};
 use step::State;
 
@@ -37,7 +38,13 @@ pub fn state_of(b: &[u8; 128]) -> State
     State {
         settings: settings_of(b),
         connection: get(b, 14),
-        sender: get(b, 17),
+        sender: Sender {
+            held: Record {
+                case: get(b, 17),
+                column: get(b, 18),
+            },
+            last: get(b, 20),
+        },
         reading: get(b, 21),
         incoming: get(b, 22),
         reader: Reader {

@@ -4,12 +4,11 @@ ghost use Rattle.word.specs.Word.{bytes_of, number_by};
 ghost use Rattle.motor.specs.Motor.{sound_run};
 ghost use Rattle.spelling.specs.Spelling.{case_byte, case_of, column_bytes, column_of, connection_bytes, form_byte, form_of, known_byte, known_of, last_byte, last_of, part, puts, run_bytes, run_of, sender_bytes, stage_bytes, stage_of, verb_byte, verb_of};
 ghost use Rattle.word.proofs.Words.{bytes_back};
-ghost use Rattle.spelling.specs.Back.{case_back, known_back, column_back, verb_back, form_back, stage_back, run_back, sender_back, all};
+ghost use Rattle.spelling.specs.Back.{case_back, known_back, column_back, verb_back, form_back, stage_back, run_back, all};
 
 use code::Case;
 use command::{Form, Stage, Verb};
 use motor::Run;
-use sender::{Record, Sender};
 use settings::Connection;
 
 // A part that is spelt as N bytes.
@@ -263,9 +262,7 @@ impl Spelled<8> for u64 {
     }
 
     fn from_bytes(b: &[u8]) -> u64 {
-        let mut word = [0; 8];
-        word.copy_from_slice(b);
-        u64::from_le_bytes(word)
+        u64::from_le_bytes(b.try_into().unwrap())
     }
 }
 
@@ -284,9 +281,7 @@ impl<const N: usize> Spelled<N> for [u8; N] {
     }
 
     fn from_bytes(b: &[u8]) -> [u8; N] {
-        let mut fields = [0; N];
-        fields.copy_from_slice(b);
-        fields
+        b.try_into().unwrap()
     }
 }
 
@@ -309,34 +304,6 @@ impl Spelled<3> for Connection {
             mode: b[0],
             port: b[1],
             speed: b[2],
-        }
-    }
-}
-
-// The record, and the last item.
-impl Spelled<4> for Sender {
-    ghost bytes = { sender_bytes };
-
-    ghost of = { λ b. record { held = record { case = known_of (get_or b 0 0); column = column_of (get_or b 1 0) (get_or b 2 0) }; last = last_of (get_or b 3 0) } };
-
-    ghost formed = { λ _. Unit {0} };
-
-    ghost back = { λ x _. sender_back x };
-
-    fn to_bytes(self) -> [u8; 4] {
-        let [case]: [u8; 1] = self.held.case.to_bytes();
-        let [is, n]: [u8; 2] = self.held.column.to_bytes();
-        let [last]: [u8; 1] = self.last.to_bytes();
-        [case, is, n, last]
-    }
-
-    fn from_bytes(b: &[u8]) -> Sender {
-        Sender {
-            held: Record {
-                case: Option::from_bytes(&b[..1]),
-                column: Option::from_bytes(&b[1..3]),
-            },
-            last: Option::from_bytes(&b[3..]),
         }
     }
 }
