@@ -35,7 +35,7 @@ fn call<T: Input>(
     ensures { Boarded T.stream state.old input.now first.old second.old state.new first.new second.new done.new result }
 {
     let Some(s) = open_state(state) else {
-        *done = [0, 0, 0];
+        *done = [0; 3];
         return 3;
     };
     let c = T::take(s, input, first, second);
@@ -106,7 +106,7 @@ pub extern "C" fn linebox_find(bytes: &[u8], at: &mut [u64; 2]) -> u32
             1
         }
         None => {
-            *at = [0, 0];
+            *at = [0; 2];
             0
         }
     }

@@ -25,7 +25,7 @@ fn put_calling(bytes: &mut [u8; 128], k: &Calling)
     }
 }
 
-// The whole state, over whatever the bytes were.
+// The whole state, over whatever the bytes were. It is compiled into its callers, which then need not lay out the state for it.
 #[inline(always)]
 pub fn save(s: State, bytes: &mut [u8; 128])
     ensures { bytes.new ≡ spelt s }

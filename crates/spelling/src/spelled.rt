@@ -2,7 +2,7 @@
 ghost use Rattle.std.specs.Prelude.{◌≡◌, ◌+◌, ◌≤◌, ◌<◌, ◌^◌, ℕ, List, [], ◌∷◌, true, get_or, length, refl};
 ghost use Rattle.word.specs.Word.{bytes_of, number_by};
 ghost use Rattle.motor.specs.Motor.{sound_run};
-ghost use Rattle.spelling.specs.Spelling.{case_byte, case_of, column_bytes, column_of, connection_bytes, form_byte, form_of, known_byte, known_of, last_byte, last_of, part, puts, run_bytes, run_of, sender_bytes, stage_bytes, stage_of, verb_byte, verb_of};
+ghost use Rattle.spelling.specs.Spelling.{case_byte, case_of, column_bytes, column_of, connection_bytes, form_byte, form_of, known_byte, known_of, part, puts, run_bytes, run_of, stage_bytes, stage_of, verb_byte, verb_of};
 ghost use Rattle.word.proofs.Words.{bytes_back};
 ghost use Rattle.spelling.specs.Back.{case_back, known_back, column_back, verb_back, form_back, stage_back, run_back, all};
 
@@ -12,13 +12,13 @@ use motor::Run;
 use settings::Connection;
 
 // A part that is spelt as N bytes.
-pub trait Spelled<const N: usize>: Copy {
-    // Its bytes, what bytes read as, and the values of the part that the box has.
+pub(crate) trait Spelled<const N: usize>: Copy {
+    // Its bytes, what bytes read as, and what the type says of a value: nothing more, but where an impl says so.
     ghost bytes: { Self → List ℕ };
 
     ghost of: { List ℕ → Self };
 
-    ghost formed: { Self → Type 0 };
+    ghost formed: { Self → Type 0 } = { λ _. Unit {0} };
 
     fn to_bytes(self) -> [u8; N]
         ensures { result ≡ bytes self };
@@ -32,7 +32,7 @@ pub trait Spelled<const N: usize>: Copy {
 }
 
 // A part's bytes from an offset on.
-pub fn put<T: Spelled<N>, const N: usize>(bytes: &mut [u8; 128], at: usize, x: T)
+pub(crate) fn put<T: Spelled<N>, const N: usize>(bytes: &mut [u8; 128], at: usize, x: T)
     requires { at + N ≤ 128 }
     ensures { bytes.new ≡ puts bytes.old at (T.bytes x) }
 {
@@ -40,7 +40,7 @@ pub fn put<T: Spelled<N>, const N: usize>(bytes: &mut [u8; 128], at: usize, x: T
 }
 
 // The part that the bytes from an offset on read as.
-pub fn get<T: Spelled<N>, const N: usize>(b: &[u8; 128], at: usize) -> T
+pub(crate) fn get<T: Spelled<N>, const N: usize>(b: &[u8; 128], at: usize) -> T
     requires { at + N ≤ 128 }
     ensures { result ≡ T.of (part b.now at N) }
 {
@@ -52,8 +52,6 @@ impl Spelled<1> for Case {
     ghost bytes = { λ c. case_byte c ∷ [] };
 
     ghost of = { λ b. case_of (get_or b 0 0) };
-
-    ghost formed = { λ _. Unit {0} };
 
     ghost back = { λ c _. case_back c };
 
@@ -77,8 +75,6 @@ impl Spelled<1> for Verb {
     ghost bytes = { λ v. verb_byte v ∷ [] };
 
     ghost of = { λ b. verb_of (get_or b 0 0) };
-
-    ghost formed = { λ _. Unit {0} };
 
     ghost back = { λ v _. verb_back v };
 
@@ -105,8 +101,6 @@ impl Spelled<1> for Form {
 
     ghost of = { λ b. form_of (get_or b 0 0) };
 
-    ghost formed = { λ _. Unit {0} };
-
     ghost back = { λ f _. form_back f };
 
     fn to_bytes(self) -> [u8; 1] {
@@ -132,8 +126,6 @@ impl Spelled<1> for Option<Case> {
 
     ghost of = { λ b. known_of (get_or b 0 0) };
 
-    ghost formed = { λ _. Unit {0} };
-
     ghost back = { λ k _. known_back k };
 
     fn to_bytes(self) -> [u8; 1] {
@@ -157,8 +149,6 @@ impl Spelled<2> for Option<u8> {
 
     ghost of = { λ b. column_of (get_or b 0 0) (get_or b 1 0) };
 
-    ghost formed = { λ _. Unit {0} };
-
     ghost back = { λ c _. column_back c };
 
     fn to_bytes(self) -> [u8; 2] {
@@ -181,8 +171,6 @@ impl Spelled<4> for Stage {
     ghost bytes = { stage_bytes };
 
     ghost of = { λ b. stage_of (get_or b 0 0) (get_or b 1 0) (get_or b 2 0) (get_or b 3 0) };
-
-    ghost formed = { λ _. Unit {0} };
 
     ghost back = { λ s _. stage_back s };
 
@@ -290,8 +278,6 @@ impl Spelled<3> for Connection {
     ghost bytes = { connection_bytes };
 
     ghost of = { λ b. record { mode = get_or b 0 0; port = get_or b 1 0; speed = get_or b 2 0 } };
-
-    ghost formed = { λ _. Unit {0} };
 
     ghost back = { λ _ _. refl };
 
