@@ -40,6 +40,11 @@ heard false s c = record { answer = Err (record { taken = 0 }); page = s }
 abbrev pub step : Page → ℕ → Heard
 step s c = heard (ltb c 32) s c
 
+-- how many of so many codes an answer says were taken
+abbrev pub taken_of : Result (Unit {0}) NoCode → ℕ → ℕ
+taken_of (Ok u) n = n
+taken_of (Err e) n = e.taken
+
 -- what comes of many: whether all were taken, how many were, and the page after them
 pub record Run : Type 0 where
   pub answer : Result (Unit {0}) NoCode

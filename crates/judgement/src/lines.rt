@@ -1,7 +1,8 @@
 // A line of the paper: what is struck on it, how it stands in the end, and how many of each there are.
-ghost use Rattle.std.specs.Prelude.{◌≡◌, ◌≤◌, ◌-◌};
+ghost use Rattle.std.specs.Prelude.{◌≡◌, ◌≤◌};
 ghost use Rattle.judgement.specs.Verdict.{number_of};
-ghost use Rattle.judgement.specs.Line.{bare, stand_after, seen, strike, final_at, final, standing, standings, count_of, alone, tally_of, plus_tally};
+ghost use Rattle.judgement.specs.Line.{bare, stand_after, seen, strike, final_at, final};
+ghost use Rattle.judgement.specs.Line.{standing, standings, count_of, alone, tally_of, plus_tally};
 
 use crate::{Line, Spot, Strike, Tally, Verdict};
 use std::ops::Add;

@@ -1,7 +1,7 @@
 // The page: a record's codes, taken one at a time and many at a time, and the judgement of each.
-ghost use Rattle.std.specs.Prelude.{◌≡◌, MatchResult, length};
+ghost use Rattle.std.specs.Prelude.{◌≡◌, length};
 ghost use Rattle.judgement.specs.Verdict.{answer_of};
-ghost use Rattle.judgement.specs.Page.{start, feeds, page_after, step, run, totals};
+ghost use Rattle.judgement.specs.Page.{start, feeds, page_after, step, taken_of, run, totals};
 
 use crate::{Line, NoCode, Page, Start, Tally, Watch};
 use code::Case;
@@ -29,7 +29,7 @@ pub fn number_of(a: Result<(), NoCode>) -> u8
 pub fn feeds(c: u8) -> bool
     ensures { result ≡ feeds c }
 {
-    code::row_at(Case::Letters, c) == 10
+    code::row_at(Case::Letters, c) == b'\n'
 }
 
 impl Page {
@@ -79,7 +79,7 @@ impl Page {
     // Takes all codes up to the first byte that is none.
     pub fn run(&mut self, codes: &[u8]) -> Result<(), NoCode>
         ensures answer { result ≡ (run self.old codes.now).answer }
-        ensures taken { MatchResult result (λ _. length codes.now ≡ (run self.old codes.now).taken) (λ e. e.taken ≡ (run self.old codes.now).taken) }
+        ensures taken { taken_of result (length codes.now) ≡ (run self.old codes.now).taken }
         ensures page { self.new ≡ (run self.old codes.now).page }
     {
         for (i, c) in codes.iter().enumerate() {
