@@ -50,30 +50,33 @@ fn print_differs(rt: &impl Print, s: &[u8]) -> io::Result<()> {
     println!(rt)
 }
 
+// The bytes that a text spells, in a lent buffer.
+fn decoded<'a>(form: Form, text: &[u8], out: &'a mut [u8]) -> &'a [u8] {
+    let n = decode(form, text, out);
+    front(out, n)
+}
+
+// Codes as a log sheet spells them, in a lent buffer.
+fn spelled<'a>(codes: &[u8], out: &'a mut [u8]) -> &'a [u8] {
+    let n = sheet::spell(codes, out).unwrap_or(0);
+    front(out, n)
+}
+
 // Bytes are those that a text means.
 fn is_shown(form: Form, s: &[u8], text: &[u8]) -> bool {
     let mut out = [0u8; 1024];
     match form {
-        Form::Decimal => {
-            let n = sheet::spell(s, &mut out).unwrap_or(0);
-            front(&out, n) == text
-        }
-        Form::Escaped => {
-            let n = decode(Form::Escaped, text, &mut out);
-            s == front(&out, n)
-        }
+        Form::Decimal => spelled(s, &mut out) == text,
+        Form::Escaped => s == decoded(form, text, &mut out),
     }
 }
 
 // Prints what a box gave.
 fn print_shown(rt: &impl Print, form: Form, s: &[u8]) -> io::Result<()> {
+    let mut out = [0u8; 1024];
     print!(rt; "gave:")?;
     match form {
-        Form::Decimal => {
-            let mut out = [0u8; 1024];
-            let n = sheet::spell(s, &mut out).unwrap_or(0);
-            rt.write_all(front(&out, n))?;
-        }
+        Form::Decimal => rt.write_all(spelled(s, &mut out))?,
         Form::Escaped => rt.write_all(s)?,
     }
     print!(rt; "; ")
@@ -111,8 +114,7 @@ fn run_call(rt: &impl Print, t: Stream, b: Start, s: &[u8]) -> Ran {
     let first = after_bar(given);
     let second = after_bar(first);
     let mut input = [0u8; 512];
-    let n = decode(Form::taken(t), before_bar(given), &mut input);
-    let whole = front(&input, n);
+    let whole = decoded(Form::taken(t), before_bar(given), &mut input);
     let mut one = [0u8; 255];
     let mut two = [0u8; 255];
     let r = call(t, b, whole, &mut one, &mut two);
@@ -133,8 +135,7 @@ fn run_call(rt: &impl Print, t: Stream, b: Start, s: &[u8]) -> Ran {
 fn run_find(rt: &impl Print, b: Start, s: &[u8]) -> Ran {
     let given = after_bar(s);
     let mut input = [0u8; 512];
-    let n = decode(Form::Escaped, before_bar(given), &mut input);
-    let found = message::find(front(&input, n));
+    let found = message::find(decoded(Form::Escaped, before_bar(given), &mut input));
     let same = is_shown(Form::Escaped, found, before_bar(after_bar(given)));
     if !same {
         let _ = print_shown(rt, Form::Escaped, found);
