@@ -108,12 +108,10 @@ impl Start {
     {
         let mut out = [0u8; 1];
         decode(Form::Decimal, before_bar(after_bar(s)), &mut out);
-        let old = self.state;
         let setup = Setup {
-            settings: old.settings.with_value(1, out[0]),
-            calling: old.calling,
-            connection: old.connection,
+            settings: self.state.settings.with_value(1, out[0]),
+            ..self.state.setup()
         };
-        ready(old.with_stored(setup.keep()))
+        ready(self.state.with_stored(setup.keep()))
     }
 }
