@@ -1,5 +1,5 @@
 // The text of a vector: fields with a bar after each, bytes with escapes, and numbers.
-ghost use Rattle.std.specs.Prelude.{◌≡◌, ◌+◌, ◌*◌, ◌%◌, ◌≤◌, ◌<◌, length, get_or, take, drop};
+ghost use Rattle.std.specs.Prelude.{◌≡◌, ◌+◌, ◌*◌, ◌%◌, ◌≤◌, ◌<◌, length, get_or, take};
 ghost use Rattle.laws.specs.Written.{fronted};
 ghost use Rattle.entries.specs.Text.{index_of, before_bar, after_bar, digit, hex, escaped, decimal, first_piece, decoded};
 
@@ -49,13 +49,6 @@ pub fn front(s: &[u8], n: usize) -> &[u8]
     s.get(..n).unwrap_or(s)
 }
 
-// What comes after the first n bytes, or nothing where there are fewer.
-fn past(s: &[u8], n: usize) -> &[u8]
-    ensures { result.now ≡ drop n s.now }
-{
-    s.get(n..).unwrap_or(&[])
-}
-
 // Where a byte first stands, or the length where it stands nowhere.
 pub fn find(s: &[u8], x: u8) -> usize
     ensures { (result ≤ length s.now) × (result ≡ index_of x s.now) }
@@ -74,7 +67,7 @@ pub fn before_bar(s: &[u8]) -> &[u8]
 pub fn after_bar(s: &[u8]) -> &[u8]
     ensures { result.now ≡ after_bar s.now }
 {
-    past(s, find(s, b'|') + 1)
+    s.get(find(s, b'|') + 1..).unwrap_or(&[])
 }
 
 // The last eight bits of a number of three digits.
@@ -88,7 +81,7 @@ fn three(a: u8, b: u8, c: u8) -> u8
 
 // The number after the first space, of one to three digits.
 fn decimal(s: &[u8]) -> Piece
-    ensures { (1 ≤ result.width) × (result.width ≤ 4) × (result ≡ decimal s.now) }
+    ensures { result ≡ decimal s.now }
 {
     let x = byte_at(s, 1);
     let y = byte_at(s, 2);
@@ -113,7 +106,7 @@ fn decimal(s: &[u8]) -> Piece
 
 // The first byte: `\r` is CR, `\n` is LF, `\xNN` is the value of two digits, any other escape is the byte itself.
 fn escaped(s: &[u8]) -> Piece
-    ensures { (1 ≤ result.width) × (result.width ≤ 4) × (result ≡ escaped s.now) }
+    ensures { result ≡ escaped s.now }
 {
     let x = byte_at(s, 0);
     if x != b'\\' {
@@ -138,7 +131,7 @@ fn escaped(s: &[u8]) -> Piece
 
 // The first byte in a form.
 fn first_piece(form: Form, s: &[u8]) -> Piece
-    ensures { (1 ≤ result.width) × (result.width ≤ 4) × (result ≡ first_piece form s.now) }
+    ensures { result ≡ first_piece form s.now }
 {
     match form {
         Form::Escaped => escaped(s),
@@ -157,7 +150,7 @@ pub fn decode(form: Form, s: &[u8], out: &mut [u8]) -> usize
         }
         let p = first_piece(form, rest);
         *place = p.byte;
-        rest = past(rest, p.width);
+        rest = rest.get(p.width..).unwrap_or(&[]);
     }
     out.len()
 }
