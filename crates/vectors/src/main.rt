@@ -84,8 +84,7 @@ fn print_shown(rt: &impl Print, form: Form, s: &[u8]) -> io::Result<()> {
 
 // A call's answer and the count it took are those of a text, or all that was left where the text is empty.
 fn is_ended(c: Called, left: usize, text: &[u8]) -> bool {
-    let answer = c.answer;
-    let number = linebox::number_of(answer);
+    let number = u32::from(c.answer);
     if text.is_empty() {
         return number == 0 && c.taken == left;
     }
