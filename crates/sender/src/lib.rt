@@ -41,7 +41,7 @@ pub enum Asks {
 
 // What stops a run of bytes, beside want of room: nothing, a byte, or any byte above one. No closure: with `impl Fn(u8) -> bool` the loop over bytes
 // is compiled for each and an item into none of them (three in ten more instructions for a night's log, and with endings more than the older form
-// took); with `&dyn Fn(u8) -> bool`, which is as quick, each caller has to name its test a second time, for `run_of`.
+// took); a `&dyn Fn(u8) -> bool` is called through a pointer, so that the stack of a call could not be told (benchmark/size refuses it).
 #[derive(Clone, Copy)]
 pub enum Until {
     Never,
