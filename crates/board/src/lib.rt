@@ -10,7 +10,6 @@ ghost use Rattle.board.specs.Calls.{Boarded, spells_sound};
 ghost use Rattle.board.specs.Finds.{Finds};
 
 use linebox::calls::{HostBytes, Input, LineCodes, TuCodes};
-use linebox::number_of;
 use spelling::load::{is_spelling, state_of};
 use spelling::save::save;
 use step::State;
@@ -41,7 +40,7 @@ fn call<T: Input>(
     let c = T::take(s, input, first, second);
     save(c.state, state);
     *done = [c.taken as u64, c.first as u64, c.second as u64];
-    number_of(c.answer)
+    u32::from(c.answer)
 }
 
 // A fresh box. Answers 0.
