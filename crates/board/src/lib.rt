@@ -95,6 +95,7 @@ pub extern "C" fn linebox_tu(
 }
 
 // Where the earliest complete message stands, from its hyphen to its last digit. Answers 1, or 0 and both places 0.
+// A number and two places, not an Option: the C interface has it so.
 #[unsafe(no_mangle)]
 pub extern "C" fn linebox_find(bytes: &[u8], at: &mut [u64; 2]) -> u32
     ensures { Finds bytes.now at.new result }

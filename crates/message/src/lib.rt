@@ -108,6 +108,7 @@ fn width(n: u8) -> usize
 }
 
 // The bytes of `word` from `at` in `out`. Gives the place after them.
+// The buffer and the place in it stay two parameters: `Put`, which this promises, names both.
 pub fn put(word: &[u8], out: &mut [u8], at: usize) -> usize
     requires { at + length word.now ≤ length out.old }
     ensures { Put out.old at word.now out.new result }
