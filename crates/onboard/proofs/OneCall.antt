@@ -2,7 +2,7 @@
 -- after it reads back as that state.
 -- Assumes nothing.
 use Prim.Native.Nat.{ℕ}
-use mathlib.Core.Path.{◌≡◌, refl, sym, ap, ◌∙◌}
+use mathlib.Core.Path.{◌≡◌, ap, ◌∙◌}
 use mathlib.Core.Bool.{true, false}
 use mathlib.Core.List.{List}
 use lib.ListN.{length, get_or}
@@ -16,7 +16,7 @@ use Rattle.spelling.specs.Spelling.{spells, spelt, state_of}
 use Rattle.spelling.proofs.ReadBack.{sound_formed, read_back}
 use Rattle.board.specs.Calls.{spells_sound, after, asked, Boards}
 use Rattle.board.proofs.Asked.{three}
-use Rattle.demands.specs.Box.{Result, resulting, ours}
+use Rattle.demands.specs.Box.{resulting, ours}
 use Rattle.demands.specs.EveryCall.{Ended}
 use Rattle.demands.proofs.OurBox.{ours_every_call}
 use Rattle.onboard.specs.Names.{State, Stream}

@@ -2,7 +2,7 @@
 -- others.
 -- Assumes nothing.
 use Prim.Native.Nat.{ℕ}
-use mathlib.Core.Path.{◌≡◌, refl, sym, ap, ◌∙◌, subst}
+use mathlib.Core.Path.{◌≡◌, ap, ◌∙◌, subst}
 use mathlib.Core.Bool.{true}
 use mathlib.Core.List.{List, [], ◌∷◌}
 use Rattle.laws.proofs.Both.{both}
@@ -14,7 +14,7 @@ use Rattle.board.specs.Calls.{spells_sound}
 use Rattle.demands.specs.Lent.{left}
 use Rattle.demands.proofs.Lent.{Meets, meets_reads_back, meets_prints}
 use Rattle.onboard.specs.Names.{State}
-use Rattle.onboard.specs.OneCall.{Wire, Promised}
+use Rattle.onboard.specs.OneCall.{Wire}
 use Rattle.onboard.specs.Session.{as_exchanges, Session, last_bytes, Demanded}
 use Rattle.onboard.proofs.OneCall.{spelt_back, one_call}
 

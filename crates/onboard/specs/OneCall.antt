@@ -1,5 +1,5 @@
 -- Demand 1 of a call for C: what its promise in `board` fixes is what the demand says of the state that the bytes spell.
-use Rattle.std.specs.Prelude.{ℕ, ◌≡◌, true, false, List, [], get_or}
+use Rattle.std.specs.Prelude.{ℕ, ◌≡◌, true, false, List, get_or}
 use Rattle.linebox.specs.Call.{stopped}
 use Rattle.spelling.specs.Spelling.{state_of}
 use Rattle.board.specs.Calls.{spells_sound, Boarded}
