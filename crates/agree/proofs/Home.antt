@@ -8,7 +8,7 @@ use native.Mathlib.Omega.{arith}
 use lib.Dec.{eqb, leb}
 use lib.ListN.{length}
 use borrow.Author.Tests.{eqb-true, leb-true}
-use Rattle.laws.proofs.Both.{both}
+use Rattle.std.proofs.lemmas.Bool.{and_parts}
 use Rattle.code.specs.Rows.{row_at}
 use Rattle.code.specs.Kinds.{kind_of, shifts}
 use Rattle.settings.specs.Table.{all_codes, padded, opens, sound_string, sound_settings}
@@ -100,9 +100,9 @@ pub record Sound (o : Settings) : Type 0 where
 pub sound : (o : Settings) → sound_settings o ≡ true → Sound o
 unfolding sound_string
 sound o h =
-    let limits = both (leb 10 (limit o)) (leb (limit o) 80) (limit_in o h) in
-    let string = both (all_codes (ending_codes o)) (padded (ending_codes o) && opens (ending_codes o)) (ending_sound o h) in
-    let opened = sound_opens (ending_codes o) (both (padded (ending_codes o)) (opens (ending_codes o)) string.1).1 in
+    let limits = and_parts (leb 10 (limit o)) (leb (limit o) 80) (limit_in o h) in
+    let string = and_parts (all_codes (ending_codes o)) (padded (ending_codes o) && opens (ending_codes o)) (ending_sound o h) in
+    let opened = sound_opens (ending_codes o) (and_parts (padded (ending_codes o)) (opens (ending_codes o)) string.1).1 in
     let short : length (until_zero (ending_codes o)) ≤ 8 = omega (arith, until_length (ending_codes o), eight_codes o) in
     record {
       least = leb-true 10 (limit o) limits.0;

@@ -6,7 +6,7 @@ use mathlib.Core.Bool.{Bool, true, false, cond, ◌&&◌, false≢true}
 use mathlib.Core.List.{List, [], ◌∷◌}
 use Rattle.std.specs.Prelude.{Some}
 use Rattle.std.specs.Bool.{then_some}
-use Rattle.laws.proofs.Both.{both}
+use Rattle.std.proofs.lemmas.Bool.{and_parts}
 use Rattle.step.specs.declared.State.{State}
 use Rattle.step.specs.State.{sound}
 use Rattle.linebox.specs.Call.{Done, Told, taking, stopped, number_of}
@@ -17,7 +17,7 @@ use Rattle.board.specs.Calls.{spells_sound, asked, Boards}
 
 -- bytes that spell a sound state spell a state that is sound
 pub the_sound : (b : List ℕ) → spells_sound b ≡ true → sound (state_of b) ≡ true
-the_sound b h = (both (spells b) (sound (state_of b)) h).1
+the_sound b h = (and_parts (spells b) (sound (state_of b)) h).1
 
 -- what is opened is the state that they spell
 pub opened : (b : List ℕ) (s : State) → Some s ≡ then_some (spells_sound b) (state_of b) → (spells_sound b ≡ true) × (s ≡ state_of b)

@@ -14,10 +14,10 @@ use Rattle.command.specs.Names.{Verb, Form, Empty, Digits}
 use Rattle.command.specs.Read.{is_digit, in_field, grown, added, digit, read}
 use Rattle.command.specs.Decimal.{all_digits, number}
 use Rattle.command.specs.Reads.{after}
-use Rattle.laws.proofs.Both.{both}
+use Rattle.std.proofs.lemmas.Bool.{and_parts}
 
 pub digit_least : (b : ℕ) → is_digit b ≡ true → 48 ≤ b
-digit_least b h = leb-true 48 b (both (leb 48 b) (leb b 57) h).0
+digit_least b h = leb-true 48 b (and_parts (leb 48 b) (leb b 57) h).0
 
 -- the digit rule does not look at what was reduced away
 pub grown_mod : (n b : ℕ) → grown (n % 256) b ≡ (n * 10 + (b - 48)) % 256
@@ -38,11 +38,11 @@ module _ (v : Verb) (last : ℕ) (values : List ℕ) (inside : last < length val
   run : (n : ℕ) (bs : List ℕ) → all_digits bs ≡ true → after (in_field v Digits last (set values last (n % 256))).reader bs ≡ (in_field v Digits last (set values last (number n bs % 256))).reader
   run n [] h = refl
   run n (b ∷ bs) h =
-      let p = both (is_digit b) (all_digits bs) h in
+      let p = and_parts (is_digit b) (all_digits bs) h in
       rw (turn Digits n b p.0 refl) (run (n * 10 + (b - 48)) bs p.1)
 
   -- a field that was just opened, after a run of digits, holds their number modulo 256
   pub digits_read : (b : ℕ) (bs : List ℕ) → all_digits (b ∷ bs) ≡ true → after (in_field v Empty last (set values last 0)).reader (b ∷ bs) ≡ (in_field v Digits last (set values last (number 0 (b ∷ bs) % 256))).reader
   digits_read b bs h =
-      let p = both (is_digit b) (all_digits bs) h in
+      let p = and_parts (is_digit b) (all_digits bs) h in
       rw (turn Empty 0 b p.0 refl) (run (0 * 10 + (b - 48)) bs p.1)

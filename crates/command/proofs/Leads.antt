@@ -13,7 +13,7 @@ use lib.ListN.{length, set, length-set}
 use Rattle.command.specs.Names.{Verb, Form, Empty, Digits, Ex, Stage, Text, Swallow, Held, Begun, Lettered, Typed, Fields, Discard, Reader, Out, Nothing, One, Two, Finished, Step}
 use Rattle.command.specs.Read.{unused, at, in_field, afresh, over, ends, inside, is_small, is_capital, alike, is_letter, verb, is_digit, opened, digit, ex, field, finish, read_at, read, sound_stage}
 use Rattle.command.specs.Reads.{after}
-use Rattle.laws.proofs.Both.{both}
+use Rattle.std.proofs.lemmas.Bool.{and_parts}
 
 -- a finished command has 2 to 12 fields
 abbrev pub proper : Out → Bool
@@ -122,5 +122,5 @@ eleven_after r (b ∷ bs) h = eleven_after (read r b).reader bs (eleven_read r b
 -- a finished command has 2 to 12 fields
 pub finished_read : (r : Reader) (b : ℕ) (v : Verb) (count : ℕ) → (read r b).out ≡ Finished v count → (2 ≤ count) × (count ≤ 12)
 finished_read r b v count e =
-    let p = both (leb 2 count) (leb count 12) (rw e at (proper_leads (leads r.stage r.values b))) in
+    let p = and_parts (leb 2 count) (leb count 12) (rw e at (proper_leads (leads r.stage r.values b))) in
     (leb-true 2 count p.0, leb-true count 12 p.1)

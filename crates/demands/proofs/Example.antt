@@ -4,7 +4,7 @@ use Prim.Native.Nat.{ℕ, suc}
 use mathlib.Core.Path.{◌≡◌, refl, ap, ◌∙◌}
 use mathlib.Core.Bool.{Bool, true, false, cond, ◌&&◌, false≢true}
 use mathlib.Core.List.{List, [], ◌∷◌}
-use Rattle.laws.proofs.Both.{both}
+use Rattle.std.proofs.lemmas.Bool.{and_parts}
 use Rattle.code.specs.Rows.{row_at}
 use Rattle.code.specs.Kinds.{kind_of}
 use Rattle.code.specs.Convert.{conversion}
@@ -59,7 +59,7 @@ obey o p (c ∷ cs) = obey_at o p (kind_of c) && obey o (hear p c) cs
 
 obeys : (o : Settings) (p : Printer) (cs : List ℕ) → obey o p cs ≡ true → Obeys o p cs
 obeys o p [] h = tt
-obeys o p (c ∷ cs) h = let t = both (obey_at o p (kind_of c)) (obey o (hear p c) cs) h in (obeys_at o p (kind_of c) t.0, obeys o (hear p c) cs t.1)
+obeys o p (c ∷ cs) h = let t = and_parts (obey_at o p (kind_of c)) (obey o (hear p c) cs) h in (obeys_at o p (kind_of c) t.0, obeys o (hear p c) cs t.1)
 
 abbrev obey_all : (ℕ → Printer) → ℕ → State → Printer → List Event → Bool
 obey_all joining n s p [] = true
@@ -71,7 +71,7 @@ obedient : (joining : ℕ → Printer) (n : ℕ) (x : Scene) (es : List Event) �
 obedient joining n x [] h = tt
 obedient joining n x (e ∷ es) h =
     let y = turned x e (joining n) in
-    let q = both (obey x.state.settings x.printer (does x e).line) (obey_all joining (suc n) y.state y.printer es) h in
+    let q = and_parts (obey x.state.settings x.printer (does x e).line) (obey_all joining (suc n) y.state y.printer es) h in
     (obeys x.state.settings x.printer (does x e).line q.0, obedient joining (suc n) y es q.1)
 
 -- The example.

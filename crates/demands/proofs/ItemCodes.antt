@@ -6,7 +6,7 @@ use mathlib.Core.Bool.{Bool, true, false, cond, ◌&&◌, false≢true}
 use mathlib.Core.List.{List, [], ◌∷◌, ◌++◌}
 use lib.Dec.{leb}
 use borrow.Author.Tests.{leb-true, le-leb}
-use Rattle.laws.proofs.Both.{both}
+use Rattle.std.proofs.lemmas.Bool.{and_parts}
 use Rattle.code.specs.Kinds.{kind_of, dependent, moves, shift, shifts}
 use Rattle.settings.specs.Options.{endings, limit, onspace, onreturn, filter, ending_codes}
 use Rattle.sender.specs.Record.{notes}
@@ -106,7 +106,7 @@ repeating (Char bell) l h = absurd h
 -- option 49
 is_due : (o : Settings) (col : Option ℕ) → due o col ≡ true → (endings o ≡ true) × Reached o col
 is_due o None h = absurd (false≢true h)
-is_due o (Some n) h = let p = both (endings o) (leb (limit o) n) h in (p.0, leb-true (limit o) n p.1)
+is_due o (Some n) h = let p = and_parts (endings o) (leb (limit o) n) h in (p.0, leb-true (limit o) n p.1)
 
 due_is : (o : Settings) (col : Option ℕ) → endings o ≡ true → Reached o col → due o col ≡ true
 due_is o None e h = absurd h
@@ -120,7 +120,7 @@ ending_if o r w = go (moves w.case (kind_of w.code) && due o r.column) refl
 
     go : (b : Bool) → m && due o r.column ≡ b → If (EndingDue o r w) (ending_of o r (until_zero (ending_codes o))) (ending o r b)
     go true e =
-        let p = both m (due o r.column) e in
+        let p = and_parts m (due o r.column) e in
         let q = is_due o r.column p.1 in
         record { holds = λ x. refl; fails = λ n. absurd (n (q.0, (q.1, p.0))) }
     go false e = record { holds = λ x. absurd (false≢true (sym e ∙ rw (x.1.1, due_is o r.column x.0 x.1.0) refl)); fails = λ n. refl }

@@ -8,7 +8,7 @@ use native.Mathlib.Omega.{arith}
 use borrow.Author.Tests.{ltb-true, ltb-false, lt-leb, eq-eqb, ne_eqb}
 use lib.Dec.{T, eqb, ltb}
 use Rattle.laws.specs.Same.{same}
-use Rattle.laws.proofs.Both.{both}
+use Rattle.std.proofs.lemmas.Bool.{and_parts}
 use Rattle.laws.proofs.Same.{same_tested}
 use Rattle.laws.proofs.Table.{upto, below}
 use Rattle.code.specs.declared.Conversion.TheVariants.{Nothing, Free, Cased}
@@ -40,7 +40,7 @@ low (x ∷ xs) = ltb x 128 && low xs
 seek_none : (case : Case) (xs : List ℕ) (i b : ℕ) (other : Conversion) → low xs ≡ true → 128 ≤ b → seek case i xs b other ≡ other
 seek_none case [] i b other l h = refl
 seek_none case (x ∷ xs) i b other l h =
-    let t = both (ltb x 128) (low xs) l in
+    let t = and_parts (ltb x 128) (low xs) l in
     let n : eqb x b ≡ false = ne_eqb x b (λ (e : x ≡ b). omega (arith, e, h, ltb-true x 128 t.0)) in
     rw n (seek_none case xs (suc i) b other t.1 h)
 

@@ -6,7 +6,7 @@ use mathlib.Core.Bool.{Bool, true, false, not, ◌&&◌}
 use mathlib.Core.List.{List, [], ◌∷◌, ◌++◌}
 use borrow.Author.Tests.{not-true}
 use lib.ListN.{length, take, drop}
-use Rattle.laws.proofs.Both.{both}
+use Rattle.std.proofs.lemmas.Bool.{and_parts}
 use Rattle.code.specs.Rows.{row_at}
 use Rattle.code.specs.Kinds.{kind_of}
 use Rattle.code.specs.Convert.{conversion}
@@ -44,9 +44,9 @@ all_plain_law : (s : State) (es : List Event) → all_plain s es ≡ true → Al
 all_plain_law s [] h = tt
 all_plain_law s (e ∷ es) h =
     let x = (step e.stream s e.byte).state in
-    let p = both (plain s e) (all_plain x es) h in
-    let q = both (not (connects s e)) (not (endings s.settings) && not (reports s.settings)) p.0 in
-    let r = both (not (endings s.settings)) (not (reports s.settings)) q.1 in
+    let p = and_parts (plain s e) (all_plain x es) h in
+    let q = and_parts (not (connects s e)) (not (endings s.settings) && not (reports s.settings)) p.0 in
+    let r = and_parts (not (endings s.settings)) (not (reports s.settings)) q.1 in
     (record { stays = not-true (connects s e) q.0; endings = not-true (endings s.settings) r.0; reports = not-true (reports s.settings) r.1 }, all_plain_law x es p.1)
 
 -- The calls.

@@ -8,7 +8,7 @@ use native.Mathlib.Omega.{arith}
 use borrow.Author.Tests.{lt-ltb}
 use lib.Dec.{eqb, ltb, lit≤}
 use lib.ListN.{length}
-use Rattle.laws.proofs.Both.{both}
+use Rattle.std.proofs.lemmas.Bool.{and_parts}
 use Rattle.word.specs.Word.{all_below}
 use Rattle.code.specs.declared.Conversion.{Conversion}
 use Rattle.code.specs.declared.Conversion.TheVariants as conversion
@@ -147,7 +147,7 @@ standing_below o = go (eqb (stand_in o) 0)
 
 both_below : (xs ys : List ℕ) → all_below 32 xs ≡ true → all_below 32 ys ≡ true → all_below 32 (xs ++ ys) ≡ true
 both_below [] ys h k = k
-both_below (x ∷ xs) ys h k = let b = both (ltb x 32) (all_below 32 xs) h in rw (b.0, both_below xs ys b.1 k)
+both_below (x ∷ xs) ys h k = let b = and_parts (ltb x 32) (all_below 32 xs) h in rw (b.0, both_below xs ys b.1 k)
 
 text_below : (o : Settings) (bs : List ℕ) → all_below 32 (codes_asked (wanted_text o bs)) ≡ true
 text_below o [] = refl

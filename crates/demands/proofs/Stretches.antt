@@ -4,7 +4,7 @@ use Prim.Native.Nat.{ℕ}
 use mathlib.Core.Path.{◌≡◌, refl, sym, ap, ◌∙◌}
 use mathlib.Core.Bool.{Bool, true, false, cond, ◌&&◌, false≢true}
 use mathlib.Core.List.{List, [], ◌∷◌, ◌++◌, append_assoc, append-nil}
-use Rattle.laws.proofs.Both.{both}
+use Rattle.std.proofs.lemmas.Bool.{and_parts}
 use lib.Dec.{leb}
 use Rattle.code.specs.Kinds.{kind_of, dependent, moves, shift, shifts}
 use Rattle.settings.specs.Options.{endings, limit, onspace, onreturn, ending_codes}
@@ -102,7 +102,7 @@ module _ (o : Settings) where
 
   is_on : (col : Option ℕ) → due o col ≡ true → endings o ≡ true
   is_on None h = absurd (false≢true h)
-  is_on (Some n) h = (both (endings o) (leb (limit o) n) h).0
+  is_on (Some n) h = (and_parts (endings o) (leb (limit o) n) h).0
 
   -- string 90 if it is due
   ending_printed : (p : Printer) (r : Record) (b : Bool) → (b ≡ true → endings o ≡ true) → Printed o p (ending o r b) []
@@ -134,7 +134,7 @@ module _ (o : Settings) where
       let b = agreement o r p e (obeys_append o p e cs obeys).0 a in
       let own = ap characters_of (code_prints o (notes o r e) q w.case w.code b) ∙ characters k (mark_as k w.case q.count w.code) in
       printed_append p e cs [] (code_in w.case w.code)
-      (ending_printed p r (moves w.case k && due o r.column) (λ h. is_on r.column (both (moves w.case k) (due o r.column) h).1))
+      (ending_printed p r (moves w.case k && due o r.column) (λ h. is_on r.column (and_parts (moves w.case k) (due o r.column) h).1))
       (own_printed q cs (code_in w.case w.code) own)
 
   -- a shift may be dropped, and has nothing to print

@@ -8,7 +8,7 @@ use borrow.Author.Tests.{eqb-true, not-true}
 use lib.Dec.{eqb}
 use lib.ListN.{get_or, drop}
 use Rattle.std.specs.Prelude.{Result, Ok, Err, is_ok}
-use Rattle.laws.proofs.Both.{both}
+use Rattle.std.proofs.lemmas.Bool.{and_parts}
 use Rattle.settings.specs.declared.Home.{Home}
 use Rattle.settings.specs.declared.Home.TheVariants.{Version, Linked, Unlinked, Value, String, Power, Signal, Factory, Nowhere}
 use Rattle.settings.specs.declared.Row.{Row}
@@ -32,7 +32,7 @@ unfolding agrees
 sought f u [] [] a n = u
 sought f u [] (x ∷ ids) a n = absurd (false≢true a)
 sought f u (r ∷ rs) [] a n =
-    let p = both (not (f r.home)) (agrees f rs []) a in
+    let p = and_parts (not (f r.home)) (agrees f rs []) a in
     go (eqb n r.number) (not-true (f r.home) p.0) (sought f u rs [] p.1 n)
   where
     go : (b : Bool) → f r.home ≡ false → f (seek rs n).home ≡ false → f (cond b r (seek rs n)).home ≡ false
@@ -53,10 +53,10 @@ sought f u (r ∷ rs) (x ∷ ids) a n = go (f r.home) refl a (λ h. sought f u r
     go : (t : Bool) → f r.home ≡ t → cond t (eqb x r.number && agrees f rs ids) (not (among (x ∷ ids) r.number) && agrees f rs (x ∷ ids)) ≡ true
         → (agrees f rs ids ≡ true → f (seek rs n).home ≡ among ids n) → (agrees f rs (x ∷ ids) ≡ true → f (seek rs n).home ≡ among (x ∷ ids) n) → f (cond (eqb n r.number) r (seek rs n)).home ≡ among (x ∷ ids) n
     go true e h after same =
-        let p = both (eqb x r.number) (agrees f rs ids) h in
+        let p = and_parts (eqb x r.number) (agrees f rs ids) h in
         found (eqb n r.number) e (after p.1) ∙ ap (λ (m : ℕ). eqb n m || among ids n) (sym (eqb-true x r.number p.0))
     go false e h after same =
-        let p = both (not (among (x ∷ ids) r.number)) (agrees f rs (x ∷ ids)) h in
+        let p = and_parts (not (among (x ∷ ids) r.number)) (agrees f rs (x ∷ ids)) h in
         other (eqb n r.number) refl e (not-true (among (x ∷ ids) r.number) p.0) (same p.1)
 
 -- What a command does is said by a flag that a write sets by its id's home, and that nothing else sets.

@@ -7,14 +7,14 @@ use mathlib.Core.List.{List, [], ◌∷◌}
 use borrow.Author.Tests.{eqb-true, eq-eqb}
 use lib.Dec.{T, eqb}
 use Rattle.laws.specs.Same.{same}
-use Rattle.laws.proofs.Both.{both}
+use Rattle.std.proofs.lemmas.Bool.{and_parts}
 
 pub same_eq : (xs ys : List ℕ) → same xs ys ≡ true → xs ≡ ys
 same_eq [] [] h = refl
 same_eq [] (y ∷ ys) h = absurd (false≢true h)
 same_eq (x ∷ xs) [] h = absurd (false≢true h)
 same_eq (x ∷ xs) (y ∷ ys) h =
-    let b = both (eqb x y) (same xs ys) h in
+    let b = and_parts (eqb x y) (same xs ys) h in
     rw (eqb-true x y b.0, same_eq xs ys b.1)
 
 pub same_self : (xs : List ℕ) → same xs xs ≡ true

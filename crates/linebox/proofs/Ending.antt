@@ -9,7 +9,7 @@ use native.Mathlib.Omega.{arith}
 use borrow.Author.Tests.{leb-true}
 use lib.Dec.{leb}
 use lib.ListN.{length, take, length-append}
-use Rattle.laws.proofs.Both.{both}
+use Rattle.std.proofs.lemmas.Bool.{and_parts}
 use Rattle.linebox.specs.Names.{State, Stream}
 use Rattle.step.specs.State.{sound}
 use Rattle.step.specs.Step.{step}
@@ -180,7 +180,7 @@ taking_fits t s (x ∷ xs) a b = go (refuses t s x) (fits t (step t s x) a b) re
     go false true e p =
         let f = first_of t (step t s x) in
         let g = second_of t (step t s x) in
-        let q = both (leb (length f) a) (leb (length g) b) e in
+        let q = and_parts (leb (length f) a) (leb (length g) b) e in
         (rw (length-append f rest.first) (omega (arith, leb-true (length f) a q.0, p.0)), rw (length-append g rest.second) (omega (arith, leb-true (length g) b q.1, p.1)))
 
 -- what is written fits the buffers

@@ -27,7 +27,7 @@ use Rattle.command.specs.Read.{read}
 use Rattle.step.proofs.Stays.{sound_step}
 use Rattle.linebox.proofs.Kept.{kept}
 use Rattle.laws.proofs.Filled.{free_length, filled_more, filled_on, unfilled}
-use Rattle.laws.proofs.Both.{both}
+use Rattle.std.proofs.lemmas.Bool.{and_parts}
 
 -- a run more before the rest
 joined : (n m : ℕ) (p new q : List ℕ) (d : Done) → before n p q (before m new [] d) ≡ before (n + m) (p ++ new) q d
@@ -160,7 +160,7 @@ module _ (t : Stream) (start : State) (input old₁ old₂ : List ℕ) where
         let n = length old₂ - k₂ in
         let y = accepted t next _ _ ys₁ ys₂ x o in
         let all = rooms true y.fit in
-        let both_fit = both (leb (length f) m) (leb (length g) n) all in
+        let both_fit = and_parts (leb (length f) m) (leb (length g) n) all in
         let u : m - length f ≡ length old₁ - (k₁ + length f) = omega arith in
         let v : n - length g ≡ length old₂ - (k₂ + length g) = omega arith in
         let w : length input - length left + 1 ≡ length input - length more = omega (arith, r.within, ap length e) in

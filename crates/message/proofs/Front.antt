@@ -9,7 +9,7 @@ use native.Mathlib.Omega.{arith}
 use borrow.Author.Tests.{eqb-true}
 use lib.Dec.{eqb}
 use lib.ListN.{length, drop}
-use Rattle.laws.proofs.Both.{both}
+use Rattle.std.proofs.lemmas.Bool.{and_parts}
 use Rattle.message.specs.declared.Scan.{Scan}
 use Rattle.message.specs.declared.Scan.TheVariants.{Bad, Opening, Comma, In}
 use Rattle.std.proofs.Common.{Some, None}
@@ -35,7 +35,7 @@ ended_here st k s m e = go (prefix crlf s && complete st) refl e
   where
     go : (t : Bool) → prefix crlf s && complete st ≡ t → then_some t k ≡ Some m → Ended st k s m
     go true f d =
-        let b = both (prefix crlf s) (complete st) f in
+        let b = and_parts (prefix crlf s) (complete st) f in
         record { w = []; rest = drop 2 s; spelt = prefix_front crlf s b.0; long = sym (same_Some k m d) ∙ sym (add-zero k); done = b.1 }
     go false f d = absurd (none-some m d)
 

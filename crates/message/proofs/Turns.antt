@@ -9,14 +9,14 @@ use borrow.Author.Tests.{ne_eqb, le-leb, leb-true}
 use lib.Dec.{leb}
 use lib.ListN.{length, get_or, drop}
 use lib.Seq.{drop-cons}
-use Rattle.laws.proofs.Both.{both}
+use Rattle.std.proofs.lemmas.Bool.{and_parts}
 use Rattle.message.specs.declared.Phase.{Phase}
 use Rattle.message.specs.declared.Scan.{Scan}
 use Rattle.message.specs.declared.Scan.TheVariants.{In}
 use Rattle.message.specs.Scan.{is_digit, more, scan, numbers_from}
 
 pub digit_bounds : (b : ℕ) → is_digit b ≡ true → (48 ≤ b) × (b ≤ 57)
-digit_bounds b e = let p = both (leb 48 b) (leb b 57) e in (leb-true _ _ p.0, leb-true _ _ p.1)
+digit_bounds b e = let p = and_parts (leb 48 b) (leb b 57) e in (leb-true _ _ p.0, leb-true _ _ p.1)
 
 module _ (p : Phase) (v b : ℕ) where
   pub more_fits : (x y : ℕ) → (v ≡ 0 → ⊥) → x ≡ v → y ≡ b - 48 → x * 10 + y ≤ 255 → In p (x * 10 + y) ≡ more p v b

@@ -4,7 +4,7 @@ use Prim.Native.Nat.{ℕ}
 use mathlib.Core.Path.{◌≡◌}
 use mathlib.Core.Bool.{true}
 use lib.ListN.{get_or}
-use Rattle.laws.proofs.Both.{both}
+use Rattle.std.proofs.lemmas.Bool.{and_parts}
 use Rattle.word.specs.Word.{unpacked, is_word}
 use Rattle.settings.specs.Table.{padded, is_signal, sound_calling}
 use Rattle.settings.proofs.Held.{signal_in, signals_in}
@@ -17,4 +17,4 @@ unfolding is_signal signal
 sound_signals k h = record { word = λ i. (parts i).0; rule = λ i. (parts i).1 }
   where
     parts : (i : ℕ) → (is_word (get_or k.strings i 0) ≡ true) × (padded (unpacked (get_or k.strings i 0)) ≡ true)
-    parts i = both (is_word (get_or k.strings i 0)) (padded (unpacked (get_or k.strings i 0))) (signal_in k.strings i (signals_in k h))
+    parts i = and_parts (is_word (get_or k.strings i 0)) (padded (unpacked (get_or k.strings i 0))) (signal_in k.strings i (signals_in k h))

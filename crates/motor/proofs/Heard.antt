@@ -9,7 +9,7 @@ use native.Mathlib.Omega.{arith}
 use borrow.Author.Tests.{ltb-true}
 use lib.Dec.{ltb, lit≤}
 use lib.ListN.{length}
-use Rattle.laws.proofs.Both.{both}
+use Rattle.std.proofs.lemmas.Bool.{and_parts}
 use Rattle.word.specs.Word.{all_below, packed}
 use Rattle.word.proofs.Words.{fewer}
 use Rattle.motor.specs.Motor.{heard_with, without, latest}
@@ -49,7 +49,7 @@ heard_append (x ∷ xs) ys h = heard_append xs ys (heard_with h x)
 heard_last : (cs : List ℕ) (h : ℕ) → length cs ≤ 8 → all_below 32 cs ≡ true → heard_on h cs ≡ without (length cs) h + 32 ^ (8 - length cs) * packed cs
 heard_last [] h l b = omega arith
 heard_last (c ∷ cs) h l b =
-    let d = both (ltb c 32) (all_below 32 cs) b in
+    let d = and_parts (ltb c 32) (all_below 32 cs) b in
     let five : c % 32 ≡ c = mod-eq_of_lt (ltb-true c 32 d.0) in
     let n = length cs in
     let p = packed cs in

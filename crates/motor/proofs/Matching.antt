@@ -9,7 +9,7 @@ use native.Mathlib.Omega.{arith}
 use borrow.Author.Tests.{ltb-true, lt-ltb, leb-true, leb-false, eqb-true, eqb-false, eq-eqb}
 use lib.Dec.{eqb, ltb, leb, lit≤}
 use lib.ListN.{length, take, drop, replicate, length-drop, length-append, length-replicate, take-append-drop}
-use Rattle.laws.proofs.Both.{both}
+use Rattle.std.proofs.lemmas.Bool.{and_parts}
 use Rattle.word.specs.Word.{digits_by, all_below, unpacked, packed}
 use Rattle.word.proofs.Words.{digits_length, digits_below, digits_number, fewer, number_digits, packed_codes}
 use Rattle.settings.specs.Table.{all_zero, padded}
@@ -23,7 +23,7 @@ use Rattle.motor.proofs.Heard.{latest_heard}
 zeros_number : (ds : List ℕ) → all_zero ds ≡ true → packed ds ≡ 0
 zeros_number [] h = refl
 zeros_number (d ∷ ds) h =
-    let b = both (eqb d 0) (all_zero ds) h in
+    let b = and_parts (eqb d 0) (all_zero ds) h in
     omega (arith, eqb-true d 0 b.0, zeros_number ds b.1)
 
 -- what stands after the first 0 makes no difference to the number
@@ -37,7 +37,7 @@ until_number (d ∷ ds) h = go (until_number ds) (eqb d 0) refl h
 
 until_below : (ds : List ℕ) → all_below 32 ds ≡ true → all_below 32 (until_zero ds) ≡ true
 until_below [] h = refl
-until_below (d ∷ ds) h = let b = both (ltb d 32) (all_below 32 ds) h in go b.0 (until_below ds b.1) (eqb d 0)
+until_below (d ∷ ds) h = let b = and_parts (ltb d 32) (all_below 32 ds) h in go b.0 (until_below ds b.1) (eqb d 0)
   where
     go : ltb d 32 ≡ true → all_below 32 (until_zero ds) ≡ true → (b : Bool) → all_below 32 (cond b [] (d ∷ until_zero ds)) ≡ true
     go l rest true = refl
@@ -90,7 +90,7 @@ packed_same xs ys l a b e =
 pub below_parts : (xs ys : List ℕ) → all_below 32 (xs ++ ys) ≡ true → (all_below 32 xs ≡ true) × (all_below 32 ys ≡ true)
 below_parts [] ys h = (refl, h)
 below_parts (x ∷ xs) ys h =
-    let b = both (ltb x 32) (all_below 32 (xs ++ ys)) h in
+    let b = and_parts (ltb x 32) (all_below 32 (xs ++ ys)) h in
     let r = below_parts xs ys b.1 in
     (rw b.0 r.0, r.1)
 
@@ -126,7 +126,7 @@ module _ (s : ℕ) (r : Ruled s) where
   same_number : (hs : List ℕ) → matches s (heard_of hs) ≡ true → (0 < s) × (latest (length (string_codes s)) (heard_of hs) ≡ packed (string_codes s))
   unfolding matches
   same_number hs h =
-      let b = both (ltb 0 s) (eqb (latest (size s) (heard_of hs)) s) h in
+      let b = and_parts (ltb 0 s) (eqb (latest (size s) (heard_of hs)) s) h in
       (ltb-true 0 s b.0, ap (λ (n : ℕ). latest n (heard_of hs)) (sym size_codes) ∙ eqb-true (latest (size s) (heard_of hs)) s b.1 ∙ sym codes_number)
 
   some_codes : 0 < s → string_codes s ≡ [] → ⊥

@@ -6,7 +6,7 @@ use mathlib.Core.Bool.{Bool, true, false, cond}
 use mathlib.Core.List.{List, [], ◌∷◌}
 use native.Mathlib.Omega.{arith}
 use borrow.Author.Tests.{ltb-true, lt-ltb, le-leb}
-use Rattle.laws.proofs.Both.{both}
+use Rattle.std.proofs.lemmas.Bool.{and_parts}
 use Rattle.word.specs.Word.{is_word}
 use Rattle.motor.specs.Names.{Calling, Motor, Run, Off, Called, On}
 use Rattle.motor.specs.Motor.{heard_with, matches, signal, starts, later, while_on, while_off, turned, hearing, hearing_all, resting, sound_run, sound_motor}
@@ -32,7 +32,7 @@ resting_sound = refl
 pub hearing_sound : (k : Calling) (m : Motor) (c : ℕ) → sound_motor m ≡ true → sound_motor (hearing k m c) ≡ true
 unfolding sound_motor hearing
 hearing_sound k m c h =
-    let b = both (is_word m.heard) (sound_run m.run) h in
+    let b = and_parts (is_word m.heard) (sound_run m.run) h in
     let w : is_word (heard_with m.heard c) ≡ true = lt-ltb (heard_with m.heard c) 1099511627776 (heard_below m.heard c (ltb-true m.heard 1099511627776 b.0)) in
     rw w (turned_sound k (heard_with m.heard c) m.run)
 

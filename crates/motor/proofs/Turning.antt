@@ -10,7 +10,7 @@ use borrow.Author.Tests.{ltb-true, leb-true, le-leb, eqb-true, not-false}
 use lib.Dec.{eqb, ltb, leb}
 use lib.ListN.{length, take, drop, length-append, take-append-drop}
 use lib.Seq.{take-append_seam, take-append-le, length-take-le}
-use Rattle.laws.proofs.Both.{both}
+use Rattle.std.proofs.lemmas.Bool.{and_parts}
 use Rattle.word.specs.Word.{all_below}
 use Rattle.motor.specs.Names.{Calling, Run, Off, Called, On}
 use Rattle.motor.specs.Motor.{latest, size_in, size, matches, comes, signal, starts, later, while_on, while_off, turned, is_on}
@@ -81,7 +81,7 @@ unfolding matches size
 match_size s h m = go (eqb s 0) refl
   where
     go : (b : Bool) → eqb s 0 ≡ b → 0 < cond b 0 (suc (size_in 7 (s / 32)))
-    go true e = absurd (omega (arith, eqb-true s 0 e, ltb-true 0 s (both (ltb 0 s) (eqb (latest (size s) h) s) m).0))
+    go true e = absurd (omega (arith, eqb-true s 0 e, ltb-true 0 s (and_parts (ltb 0 s) (eqb (latest (size s) h) s) m).0))
     go false e = omega arith
 
 module _ (k : Calling) (g : Signals k) where
@@ -111,7 +111,7 @@ module _ (k : Calling) (g : Signals k) where
       answer_if h =
           let all = hs ++ c ∷ [] in
           let s = signal k i in
-          let b = both (matches s (heard_of all)) (leb (size s) (since (run_after k hs))) h in
+          let b = and_parts (matches s (heard_of all)) (leb (size s) (since (run_after k hs))) h in
           let w : EndsWith (string_codes s) all = matched s (ruled i) all below b.0 in
           let r : Behind (ends_at k all) (last_stop k hs) (length hs) (size s) = within_reach (ends_at k all) (last_stop k hs) (length hs) (size s) (match_size s (heard_of all) b.0) (run_after k hs) known o (leb-true (size s) (since (run_after k hs)) b.1) in
           let p = r.place in

@@ -6,7 +6,7 @@ use mathlib.Core.Path.{◌≡◌, ap, ◌∙◌}
 use mathlib.Core.Bool.{true, false}
 use mathlib.Core.List.{List}
 use lib.ListN.{length, get_or}
-use Rattle.laws.proofs.Both.{both}
+use Rattle.std.proofs.lemmas.Bool.{and_parts}
 use Rattle.laws.specs.Written.{fronted}
 use Rattle.step.specs.State.{sound}
 use Rattle.step.proofs.Stays.{sound_run}
@@ -71,7 +71,7 @@ module _ (c : Wire) (p : Promised c) where
     d = call t s c.bytes a b
 
     asks_call : asked t c.state c.bytes a b ≡ d
-    asks_call = rw (both (spells c.state) (sound s) h).0
+    asks_call = rw (and_parts (spells c.state) (sound s) h).0
 
     follows : Follows c d
     follows = rw asks_call at (boards_follow c _ p)
@@ -80,7 +80,7 @@ module _ (c : Wire) (p : Promised c) where
     ours_ended = ours_every_call t s c.bytes c.one c.two
 
     stays_sound : sound d.state ≡ true
-    stays_sound = rw ours_ended.state (sound_run s (events t ours_ended.taken) (both (spells c.state) (sound s) h).1)
+    stays_sound = rw ours_ended.state (sound_run s (events t ours_ended.taken) (and_parts (spells c.state) (sound s) h).1)
 
     after_spelt : c.after ≡ spelt d.state
     after_spelt = follows.bytes ∙ rw h

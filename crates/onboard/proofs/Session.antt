@@ -5,7 +5,7 @@ use Prim.Native.Nat.{ℕ}
 use mathlib.Core.Path.{◌≡◌, ap, ◌∙◌, subst}
 use mathlib.Core.Bool.{true}
 use mathlib.Core.List.{List, [], ◌∷◌}
-use Rattle.laws.proofs.Both.{both}
+use Rattle.std.proofs.lemmas.Bool.{and_parts}
 use Rattle.step.specs.State.{sound, fresh_box}
 use Rattle.step.proofs.Stays.{fresh_sound}
 use Rattle.spelling.specs.Spelling.{spells, spelt, state_of}
@@ -28,7 +28,7 @@ session_meets b (c ∷ cs) h k =
     ((subst (λ (s : List ℕ). Meets (state_of s) (as_exchanges (c ∷ []))) e (one.ended from, tt)).0, session_meets c.after cs (one.spelt from) k.1)
 
 session_left : (b : List ℕ) (cs : List Wire) → spells_sound b ≡ true → Session b cs → last_bytes b cs ≡ spelt (left (state_of b) (as_exchanges cs))
-session_left b [] h k = its_spelling b (both (spells b) (sound (state_of b)) h).0
+session_left b [] h k = its_spelling b (and_parts (spells b) (sound (state_of b)) h).0
 session_left b (c ∷ cs) h k =
     let from : spells_sound c.state ≡ true = rw k.0.0 h in
     session_left c.after cs ((one_call c k.0.1).spelt from) k.1

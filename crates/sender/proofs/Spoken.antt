@@ -5,7 +5,7 @@ use mathlib.Core.Path.{◌≡◌, refl}
 use mathlib.Core.Bool.{Bool, true, false, ◌&&◌, ◌||◌}
 use lib.Dec.{eqb, leb}
 use borrow.Author.Tests.{eq-eqb, ne_eqb}
-use Rattle.laws.proofs.Both.{both}
+use Rattle.std.proofs.lemmas.Bool.{and_parts}
 use Rattle.code.specs.Convert.{conversion}
 use Rattle.settings.specs.Table.{has_code, sound_stand_in, sound_settings}
 use Rattle.settings.specs.Options.{stand_in}
@@ -23,7 +23,7 @@ unfolding sound_stand_in stand_in
 stand_in_coded o h n =
     let e = ne_eqb (stand_in o) 0 n in
     let p = second (eqb (stand_in o) 0) (leb 33 (stand_in o) && has_code (conversion (stand_in o))) e (stand_in_sound o h) in
-    rw e (both (leb 33 (stand_in o)) (has_code (conversion (stand_in o))) p).1
+    rw e (and_parts (leb 33 (stand_in o)) (has_code (conversion (stand_in o))) p).1
 
 either_coded : (x other : Conversion) → has_code other ≡ true → has_code (or_else x other) ≡ true
 either_coded Nothing other h = h

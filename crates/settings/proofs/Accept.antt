@@ -10,7 +10,7 @@ use lib.ListN.{get_or}
 use Rattle.std.specs.Prelude.{Option, Some, None, Result, Ok, Err}
 use Rattle.settings.specs.Names.{Verb, Write, Read, Other, Settings, Calling, Connection, Row, Fault}
 use Rattle.settings.specs.Names.fault
-use Rattle.laws.proofs.Both.{both}
+use Rattle.std.proofs.lemmas.Bool.{and_parts}
 use Rattle.settings.specs.Table.{row, taken_by}
 use Rattle.settings.specs.Command.{checked, fitting, ranged, fault_in, fault_of, jointly, succeeded, refused, wrong, commanded}
 
@@ -26,7 +26,7 @@ accepted_in None v r count fields e = absurd (cc)
 accepted_in (Some n) v r count fields e = go (fitting n count fields) refl (checked n count fields) (ranged v r fields) refl e
   where
     go : (a : Bool) → fitting n count fields ≡ a → (b d : Bool) → ranged v r fields ≡ d → cond a (cond b (cond d (Ok (tt {0})) (Err fault.Range)) (Err fault.Checksum)) (Err fault.Parameters) ≡ Ok tt → Accepted (Some n) v r fields
-    go true p true true q e = record { n = n; takes = refl; number = eqb-true (get_or fields 1 0) n (both (eqb (get_or fields 1 0) n) _ p).0; inside = q }
+    go true p true true q e = record { n = n; takes = refl; number = eqb-true (get_or fields 1 0) n (and_parts (eqb (get_or fields 1 0) n) _ p).0; inside = q }
     go true p true false q e = absurd (cc)
     go true p false d q e = absurd (cc)
     go false p b d q e = absurd (cc)

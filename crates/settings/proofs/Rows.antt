@@ -8,7 +8,7 @@ use native.Mathlib.Omega.{arith}
 use borrow.Author.Tests.{eqb-true}
 use lib.Dec.{eqb, leb, ltb}
 use lib.ListN.{length}
-use Rattle.laws.proofs.Both.{both}
+use Rattle.std.proofs.lemmas.Bool.{and_parts}
 use Rattle.settings.specs.Names.{Home, Version, Linked, Unlinked, Value, String, Power, Signal, Factory, Nowhere, Row}
 use Rattle.settings.specs.Table.{Option, options, rows_from, undefined, seek, row}
 
@@ -21,10 +21,10 @@ all p (r ∷ rs) = p r && all p rs
 sought : (p : Row → Bool) (rs : List Row) (n : ℕ) → p undefined ≡ true → all p rs ≡ true → p (seek rs n) ≡ true
 unfolding all
 sought p [] n u h = u
-sought p (r ∷ rs) n u h = go (eqb n r.number) (sought p rs n u (both (p r) (all p rs) h).1)
+sought p (r ∷ rs) n u h = go (eqb n r.number) (sought p rs n u (and_parts (p r) (all p rs) h).1)
   where
     go : (b : Bool) → p (seek rs n) ≡ true → p (cond b r (seek rs n)) ≡ true
-    go true rest = (both (p r) (all p rs) h).0
+    go true rest = (and_parts (p r) (all p rs) h).0
     go false rest = rest
 
 seek_number : (rs : List Row) (n : ℕ) → ((seek rs n).home ≡ Nowhere → ⊥) → (seek rs n).number ≡ n

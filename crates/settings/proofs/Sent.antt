@@ -21,7 +21,7 @@ use Rattle.settings.specs.Table.{between, is_speed, is_power, all_codes, sound_s
 use Rattle.settings.specs.Command.{fault_of, together, number_of, obey, numbers_at, reading, kept, outcome, answered, wrong, commanded}
 use Rattle.settings.specs.Laws.{answer_of, Sound, Sendable, Short}
 use Rattle.settings.proofs.Accept.{accepted, judged}
-use Rattle.laws.proofs.Both.{both}
+use Rattle.std.proofs.lemmas.Bool.{and_parts}
 use Rattle.std.specs.Prelude.{Result, Ok, Err}
 use Rattle.settings.proofs.Rows.{low_at, high_at, fits_home, number_fits, row_fits, row_number}
 use Rattle.settings.proofs.Held.{values_in, value_in, power_in}
@@ -36,13 +36,13 @@ code n h = digits_two n (omega (arith, ltb-true n 32 h))
 codes : (cs : List ℕ) → all_codes cs ≡ true → length (numbers cs) ≤ 3 * length cs
 codes [] h = lit≤ tt
 codes (c ∷ cs) h =
-    let b = both (ltb c 32) (all_codes cs) h in
+    let b = and_parts (ltb c 32) (all_codes cs) h in
     simp length-append (omega (arith, code c b.0, codes cs b.1))
 
 -- Numbers that are bytes.
 
 within : (low high n : ℕ) → high ≤ 255 → between low high n ≡ true → n ≤ 255
-within low high n h e = le_trans (leb-true n high (both (leb low n) (leb n high) e).1) h
+within low high n h e = le_trans (leb-true n high (and_parts (leb low n) (leb n high) e).1) h
 
 either : (n k : ℕ) (b : Bool) → k ≤ 255 → (b ≡ true → n ≤ 255) → (eqb n k || b) ≡ true → n ≤ 255
 either n k b h rest = go (eqb n k) refl
@@ -60,7 +60,7 @@ power n = either n 0 _ (lit≤ tt) (either n 2 _ (lit≤ tt) (within 4 6 n (lit�
 code_bytes : (cs : List ℕ) → all_codes cs ≡ true → AllBytes cs
 code_bytes [] h = tt
 code_bytes (c ∷ cs) h =
-    let b = both (ltb c 32) (all_codes cs) h in
+    let b = and_parts (ltb c 32) (all_codes cs) h in
     (omega (arith, ltb-true c 32 b.0), code_bytes cs b.1)
 
 fault_byte : (f : Fault) → number_of f ≤ 255
@@ -78,7 +78,7 @@ few ns b c l = record { bytes = b; counted = c; few = omega arith; short = omega
 
 link : (id last port speed' : ℕ) → id ≤ 255 → last ≤ 255 → (between 1 last port && is_speed speed') ≡ true → Sendable (id ∷ 2 ∷ port ∷ speed' ∷ [])
 link id last port speed' i l h =
-    let b = both (between 1 last port) (is_speed speed') h in
+    let b = and_parts (between 1 last port) (is_speed speed') h in
     few (id ∷ 2 ∷ port ∷ speed' ∷ []) (i, (lit≤ tt, (within 1 last port l b.0, (speed speed' b.1, tt)))) refl (lit≤ tt)
 
 one : (id n : ℕ) → id ≤ 255 → n ≤ 255 → Sendable (id ∷ 1 ∷ n ∷ [])
@@ -97,10 +97,10 @@ word id n i = string id (unpacked n) i (digits_below 32 (lit≤ tt) 8 n) (digits
 
 option_byte : (s : Settings) (i low high : ℕ) (w r : Bool) → sound_settings s ≡ true → fits_home (Value i low high) w r ≡ true → get_or s.values i 0 ≤ 255
 option_byte s i low high w r h f =
-    let b = (both r _ f).1 in
-    let p = both (ltb i (length options) && leb high 255) (eqb low (low_at options i) && eqb high (high_at options i)) b in
-    let q = both (ltb i (length options)) (leb high 255) p.0 in
-    let e = eqb-true high (high_at options i) (both (eqb low (low_at options i)) (eqb high (high_at options i)) p.1).1 in
+    let b = (and_parts r _ f).1 in
+    let p = and_parts (ltb i (length options) && leb high 255) (eqb low (low_at options i) && eqb high (high_at options i)) b in
+    let q = and_parts (ltb i (length options)) (leb high 255) p.0 in
+    let e = eqb-true high (high_at options i) (and_parts (eqb low (low_at options i)) (eqb high (high_at options i)) p.1).1 in
     within (low_at options i) (high_at options i) (get_or s.values i 0) (omega (arith, leb-true high 255 q.1, e)) (value_in options s.values i (values_in s h) (ltb-true i (length options) q.0))
 
 linked : (c : Connection) → sound_connection c ≡ true → sound_link (row c.mode).home c.port c.speed ≡ true

@@ -9,7 +9,7 @@ use borrow.Author.Tests.{ltb-true, eqb-true}
 use lib.Dec.{eqb, leb, ltb}
 use lib.ListN.{length, get_or, take, drop, length-drop, length-set}
 use lib.Seq.{length-take-le}
-use Rattle.laws.proofs.Both.{both}
+use Rattle.std.proofs.lemmas.Bool.{and_parts}
 use Rattle.word.specs.Word.{unpacked, packed, is_word}
 use Rattle.word.proofs.Words.{codes_packed, below}
 use Rattle.settings.specs.Names.{Verb, Write, Read, Other, Settings, Calling, Connection, Home, Version, Linked, Unlinked, Value, String, Power, Signal, Factory, Nowhere, Row, Fault, Stored}
@@ -41,8 +41,8 @@ defined v id n e w = go v e
     off false e f = false≢true e
 
     go : (v : Verb) → taken_by v (row id) ≡ Some n → ⊥
-    go Write e = off (row id).written (takes_can (row id).written (width (row id).home) n e).0 (both (not (row id).written) (not (row id).read) neither).0
-    go Read e = off (row id).read (takes_can (row id).read 0 n e).0 (both (not (row id).written) (not (row id).read) neither).1
+    go Write e = off (row id).written (takes_can (row id).written (width (row id).home) n e).0 (and_parts (not (row id).written) (not (row id).read) neither).0
+    go Read e = off (row id).read (takes_can (row id).read 0 n e).0 (and_parts (not (row id).written) (not (row id).read) neither).1
     go Other e = let z : ◌≡◌ {A = ℕ} 0 1 = cc in omega arith
 
 -- Values as stored are those given.
@@ -63,7 +63,7 @@ eight ps nine = length-take-le 8 ps (omega (arith, nine))
 module _ (ps : List ℕ) (nine : length ps ≡ 9) (rules : sound_string (take 8 ps) ≡ true) where
   string_codes : all_codes (take 8 ps) ≡ true
   unfolding sound_string
-  string_codes = (both (all_codes (take 8 ps)) (padded (take 8 ps) && opens (take 8 ps)) rules).0
+  string_codes = (and_parts (all_codes (take 8 ps)) (padded (take 8 ps) && opens (take 8 ps)) rules).0
 
   pub string_back : unpacked (packed (take 8 ps)) ≡ take 8 ps
   string_back = codes_packed (take 8 ps) (eight ps nine) string_codes
@@ -74,7 +74,7 @@ module _ (ps : List ℕ) (nine : length ps ≡ 9) (rules : sound_string (take 8 
 module _ (ps : List ℕ) (nine : length ps ≡ 9) (rules : sound_signal (take 8 ps) ≡ true) where
   signal_codes : all_codes (take 8 ps) ≡ true
   unfolding sound_signal
-  signal_codes = (both (all_codes (take 8 ps)) (padded (take 8 ps)) rules).0
+  signal_codes = (and_parts (all_codes (take 8 ps)) (padded (take 8 ps)) rules).0
 
   pub signal_back : unpacked (packed (take 8 ps)) ≡ take 8 ps
   signal_back = codes_packed (take 8 ps) (eight ps nine) signal_codes
@@ -85,8 +85,8 @@ module _ (ps : List ℕ) (nine : length ps ≡ 9) (rules : sound_signal (take 8 
 -- the place of an option is one of the settings'
 place_in : (i low high : ℕ) (w r : Bool) → fits_home (Value i low high) w r ≡ true → i < length options
 place_in i low high w r f =
-    let b = (both r _ f).1 in
-    ltb-true i (length options) (both (ltb i (length options)) (leb high 255) (both (ltb i (length options) && leb high 255) _ b).0).0
+    let b = (and_parts r _ f).1 in
+    ltb-true i (length options) (and_parts (ltb i (length options)) (leb high 255) (and_parts (ltb i (length options) && leb high 255) _ b).0).0
 
 module _ (s : Settings) (k : Calling) (c : Connection) (ps : List ℕ) (nine : length ps ≡ 9) (all : length s.values ≡ length options) (five : length k.strings ≡ 5) where
   stored_values : (h : Home) (n : ℕ) (w r : Bool) → fits_home h w r ≡ true → w ≡ true → in_range h ps ≡ true → values_at (store s k c h n ps).settings (store s k c h n ps).calling (store s k c h n ps).connection h ≡ take (width h) ps
@@ -96,7 +96,7 @@ module _ (s : Settings) (k : Calling) (c : Connection) (ps : List ℕ) (nine : l
   stored_values (Value p low high) n w r f e i = rw (one ps nine, set_get s.values p (get_or ps 0 0) (rw all (place_in p low high w r f)))
   stored_values String n w r f e i = string_back ps nine i
   stored_values Power n w r f e i = sym (one ps nine)
-  stored_values (Signal p) n w r f e i = rw (set_get k.strings p (packed (take 8 ps)) (rw five (ltb-true p 5 (both r (ltb p 5) f).1))) (signal_back ps nine i)
+  stored_values (Signal p) n w r f e i = rw (set_get k.strings p (packed (take 8 ps)) (rw five (ltb-true p 5 (and_parts r (ltb p 5) f).1))) (signal_back ps nine i)
   stored_values Factory n w r f e i = refl
   stored_values Nowhere n w r f e i = absurd (false≢true (rw e at f))
 
@@ -177,10 +177,10 @@ readable id w h = go (row id).home refl
     go Version e = absurd (false≢true (fits Version e))
     go (Linked last) e = rw e first.0
     go Unlinked e = rw e first.0
-    go (Value i low high) e = rw (e, itself (λ z. absurd (omega (arith, ap width (sym e ∙ z))))) (both (row id).read _ (fits (Value i low high) e)).0
+    go (Value i low high) e = rw (e, itself (λ z. absurd (omega (arith, ap width (sym e ∙ z))))) (and_parts (row id).read _ (fits (Value i low high) e)).0
     go String e = rw (e, itself (λ z. absurd (omega (arith, ap width (sym e ∙ z))))) (fits String e)
     go Power e = rw (e, itself (λ z. absurd (omega (arith, ap width (sym e ∙ z))))) (fits Power e)
-    go (Signal i) e = rw (e, itself (λ z. absurd (omega (arith, ap width (sym e ∙ z))))) (both (row id).read (ltb i 5) (fits (Signal i) e)).0
+    go (Signal i) e = rw (e, itself (λ z. absurd (omega (arith, ap width (sym e ∙ z))))) (and_parts (row id).read (ltb i 5) (fits (Signal i) e)).0
     go Factory e = absurd (h e)
     go Nowhere e = absurd (false≢true (fits Nowhere e))
 
@@ -209,7 +209,7 @@ module _ (s : Settings) (k : Calling) (c : Connection) (h : Sound s k c) where
   set_sound : (i low high n : ℕ) (w r : Bool) → fits_home (Value i low high) w r ≡ true → between low high n ≡ true → sound_stand_in (with_value s i n) ≡ true → sound_settings (with_value s i n) ≡ true
   unfolding sound_settings
   set_sound i low high n w r f b d =
-      let at = both (eqb low (low_at options i)) (eqb high (high_at options i)) (both (ltb i (length options) && leb high 255) _ (both r _ f).1).1 in
+      let at = and_parts (eqb low (low_at options i)) (eqb high (high_at options i)) (and_parts (ltb i (length options) && leb high 255) _ (and_parts r _ f).1).1 in
       let p : between (low_at options i) (high_at options i) n ≡ true = rw (← eqb-true low (low_at options i) at.0, ← eqb-true high (high_at options i) at.1) b in
       rw (set_in options s.values i n (values_in s h.settings) p, d, string_in s h.settings)
 

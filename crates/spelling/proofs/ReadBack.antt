@@ -18,7 +18,7 @@ use Rattle.spelling.specs.Names.{Calling, Motor, State}
 use Rattle.spelling.specs.Spelling.{string_bytes, heard_bytes, signal_bytes, signals_bytes, spelt, column_of, stage_of, word_at, signals_of, run_of, state_of, spells, part}
 use Rattle.spelling.proofs.Parts.{Has, two, eight, eight_heard, forty, two_run, four, laid}
 use Rattle.spelling.specs.Back.{case_back, known_back, column_back, stage_back, run_back, all}
-use Rattle.laws.proofs.Both.{both}
+use Rattle.std.proofs.lemmas.Bool.{and_parts}
 use Rattle.laws.proofs.Same.{same_self}
 use Rattle.spelling.proofs.Same.{its_spelling}
 
@@ -64,7 +64,7 @@ word_fits n h = omega (arith, ltb-true n 1099511627776 h)
 
 motor_fits : (m : Motor) → sound_motor m ≡ true → (m.heard < 18446744073709551616) × (sound_run m.run ≡ true)
 unfolding sound_motor
-motor_fits m h = let b = both (is_word m.heard) (sound_run m.run) h in (word_fits m.heard b.0, b.1)
+motor_fits m h = let b = and_parts (is_word m.heard) (sound_run m.run) h in (word_fits m.heard b.0, b.1)
 
 -- a sound state is of that form
 pub sound_formed : (s : State) → sound s ≡ true → Formed s

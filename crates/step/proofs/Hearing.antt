@@ -10,7 +10,7 @@ use borrow.Author.Tests.{ltb-true, lt-ltb, eq-eqb}
 use lib.Dec.{eqb, ltb}
 use lib.ListN.{length, length-append}
 use Rattle.std.specs.Int.{from_bool}
-use Rattle.laws.proofs.Both.{both}
+use Rattle.std.proofs.lemmas.Bool.{and_parts}
 use Rattle.laws.proofs.Either.{either_way}
 use Rattle.laws.specs.Written.{fronted, Filled}
 use Rattle.laws.proofs.Tail.{length_fronted}
@@ -107,7 +107,7 @@ digits_apart false false h = absurd (true≢false h)
 
 pub few_port : (s : State) → listens s.calling s.connection ≡ true → s.connection.port < 10
 unfolding listens
-few_port s e = omega (arith, ltb-true s.connection.port 4 (both (not (eqb s.calling.power 0)) (ltb s.connection.port 4) e).1)
+few_port s e = omega (arith, ltb-true s.connection.port 4 (and_parts (not (eqb s.calling.power 0)) (ltb s.connection.port 4) e).1)
 
 module _ (s : State) (x y : Conversion) (e : listens s.calling s.connection ≡ true) where
   abbrev k : Calling
@@ -195,6 +195,6 @@ told_few s ws = go (listens s.calling s.connection) refl
     go : (b : Bool) → listens s.calling s.connection ≡ b → length (cond b (changes s.calling s.connection.port s.motor (codes_asked ws)) []) ≤ 17 * length ws
     go true e =
         let port = s.connection.port in
-        let p : port < 10 = omega (arith, ltb-true port 4 (both (not (eqb s.calling.power 0)) (ltb port 4) e).1) in
+        let p : port < 10 = omega (arith, ltb-true port 4 (and_parts (not (eqb s.calling.power 0)) (ltb port 4) e).1) in
         omega (arith, changes_few s.calling port s.motor (codes_asked ws) p, codes_length ws)
     go false e = omega arith

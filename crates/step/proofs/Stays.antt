@@ -7,7 +7,7 @@ use mathlib.Core.List.{List, [], ◌∷◌}
 use borrow.Author.Tests.{eqb-true, eq-eqb}
 use lib.Dec.{eqb}
 use lib.ListN.{length}
-use Rattle.laws.proofs.Both.{both}
+use Rattle.std.proofs.lemmas.Bool.{and_parts}
 use Rattle.code.specs.Kinds.{kind_of}
 use Rattle.command.specs.Read.{read, sound_stage}
 use Rattle.command.proofs.Leads.{sound_read, eleven_read}
@@ -28,11 +28,11 @@ use Rattle.step.specs.Laws.{Parts}
 -- the tests of a sound state, one by one
 pub sound_parts : (s : State) → sound s ≡ true → Parts s
 sound_parts s h =
-    let a = both (sound_settings s.settings) _ h in
-    let b = both (sound_connection s.connection) _ a.1 in
-    let c = both (sound_calling s.calling) _ b.1 in
-    let d = both (sound_reader s.reader) (sound_motor s.motor) c.1 in
-    let e = both (eqb (length s.reader.values) 11) (sound_stage s.reader.stage) d.0 in
+    let a = and_parts (sound_settings s.settings) _ h in
+    let b = and_parts (sound_connection s.connection) _ a.1 in
+    let c = and_parts (sound_calling s.calling) _ b.1 in
+    let d = and_parts (sound_reader s.reader) (sound_motor s.motor) c.1 in
+    let e = and_parts (eqb (length s.reader.values) 11) (sound_stage s.reader.stage) d.0 in
     record { held = record { settings = a.0; connection = b.0; calling = c.0 }; stage = e.1; eleven = eqb-true _ 11 e.0; motor = d.1 }
 
 -- and together

@@ -9,7 +9,7 @@ use native.Mathlib.Omega.{arith}
 use borrow.Author.Tests.{ltb-true, lt-ltb}
 use lib.Dec.{ltb}
 use lib.ListN.{length}
-use Rattle.laws.proofs.Both.{both}
+use Rattle.std.proofs.lemmas.Bool.{and_parts}
 use Rattle.word.specs.Word.{digits_by, number_by, all_below, unpacked, packed, is_word, bytes_of}
 
 module _ (base : ℕ) (some : 0 < base) where
@@ -37,7 +37,7 @@ module _ (base : ℕ) (some : 0 < base) where
   pub digits_number : (ds : List ℕ) → all_below base ds ≡ true → digits_by base (length ds) (number_by base ds) ≡ ds
   digits_number [] h = refl
   digits_number (d ∷ ds) h =
-      let b = both (ltb d base) (all_below base ds) h in
+      let b = and_parts (ltb d base) (all_below base ds) h in
       let l = ltb-true d base b.0 in
       let n = number_by base ds in
       rw (add-mul-mod_self_left d base n, mod-eq_of_lt l, add-mul-div_left d n some, div-eq_of_lt l, zero-add n, digits_number ds b.1)
@@ -55,7 +55,7 @@ module _ (base : ℕ) (some : 0 < base) where
   pub number_below : (ds : List ℕ) → all_below base ds ≡ true → number_by base ds < base ^ length ds
   number_below [] h = omega (arith, pow-zero base)
   number_below (d ∷ ds) h =
-      let b = both (ltb d base) (all_below base ds) h in
+      let b = and_parts (ltb d base) (all_below base ds) h in
       let n = number_by base ds in
       omega (arith, ltb-true d base b.0, pow-succ' base (length ds), mul-suc base n, mul-le-mul_left base (number_below ds b.1))
 
