@@ -5,11 +5,10 @@ use Prim.Native.Nat.{ℕ}
 use mathlib.Core.Path.{◌≡◌, refl}
 use mathlib.Core.Bool.{Bool, true, false, cond, ◌||◌, false≢true, and-false, or-false, or_assoc}
 use mathlib.Core.List.{List, [], ◌∷◌, ◌++◌, append-nil}
-use lib.ListN.{length}
 use Rattle.code.specs.Kinds.{kind_of, shifts}
 use Rattle.code.proofs.Laws.{kind_shift}
 use Rattle.settings.specs.Table.{sound_settings}
-use Rattle.settings.specs.Options.{endings, limit, onspace, onreturn, ending_codes}
+use Rattle.settings.specs.Options.{endings, limit, onspace, onreturn}
 use Rattle.printer.specs.Printer.{hear, hears, prints, prints_all}
 use Rattle.sender.specs.Code.{is_case, unshift, send_kind, send_as}
 use Rattle.sender.specs.Ending.{ending_before}

@@ -14,7 +14,7 @@ use Rattle.code.specs.Kinds.{kind_of}
 use Rattle.code.specs.Rows.{row_at}
 use Rattle.command.specs.Read.{read}
 use Rattle.settings.specs.Laws.{Sound}
-use Rattle.settings.specs.Options.{reports, ending_codes}
+use Rattle.settings.specs.Options.{reports}
 use Rattle.settings.proofs.Sent.{answers_short}
 use Rattle.sender.specs.Item.{wanted}
 use Rattle.sender.specs.Reading.{read_case}

@@ -10,7 +10,7 @@ use lib.ListN.{length, get_or, take, drop, length-append, length-take, take-appe
 use lib.Seq.{drop-cons, split_at, take_at, get_or_at, length-take-le}
 use Rattle.laws.specs.Written.{fronted}
 use Rattle.step.specs.State.{sound}
-use Rattle.linebox.specs.Call.{Done, Told, call, told as told_of, Calls}
+use Rattle.linebox.specs.Call.{Done, call, told as told_of, Calls}
 use Rattle.linebox.specs.Ends.{outcome, from_sound, When, Takes, Ends}
 use Rattle.linebox.proofs.Ending.{ends, folds, only, one, within}
 use Rattle.demands.specs.Names.{State, Stream, Called}

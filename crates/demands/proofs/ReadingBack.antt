@@ -20,15 +20,15 @@ use Rattle.agree.proofs.Agreement.{agreement, unknown_agrees}
 use Rattle.agree.proofs.Folds.{items_noted}
 use Rattle.step.specs.Route.{route}
 use Rattle.step.specs.State.{with_reader, with_reading}
-use Rattle.step.specs.Step.{Step, read_as, hosted, lined, line_step, tued, step, Event, run}
+use Rattle.step.specs.Step.{Step, read_as, hosted, line_step, step, Event, run}
 use Rattle.linebox.specs.Ends.{events, firsts_of, Cut, Fed, feeding}
 use Rattle.settings.proofs.Written.{commanded_keeps}
 use Rattle.linebox.proofs.Cutting.{cutting}
 use Rattle.step.proofs.Ways.{lined_touches, tued_touches}
 use Rattle.demands.specs.Names.{Case, Kind, Still, Space, Return, Shift, Char, Settings, Connection, ToHost, Printer, Reader, Out, Nothing, One, Two, Finished, State, Stream, Host, Line, Tu}
-use Rattle.demands.specs.Writes.{connection_ids, writing, writes_by, connects}
+use Rattle.demands.specs.Writes.{connection_ids, writing, writes_by}
 use Rattle.demands.specs.Items.{items_of}
-use Rattle.demands.specs.Asks.{code_in, text_bytes, host_asks, tu_asks, asks_by, asks}
+use Rattle.demands.specs.Asks.{code_in, text_bytes, asks_by, asks}
 use Rattle.demands.specs.Lent.{lines, in_force}
 use Rattle.demands.specs.Printing.{characters_of}
 use Rattle.demands.specs.Whole.{asks_all}

@@ -3,15 +3,14 @@
 use Prim.Native.Nat.{ℕ}
 use mathlib.Core.Path.{◌≡◌, refl, ap}
 use mathlib.Core.Bool.{cond}
-use mathlib.Core.List.{[]}
 use Rattle.command.specs.Read.{read, text_of}
 use Rattle.sender.specs.Item.{items, after_items, fresh}
 use Rattle.step.specs.Route.{route}
 use Rattle.step.specs.State.{with_reader}
-use Rattle.step.specs.Step.{text, hosted, lined, tued, step, Event}
+use Rattle.step.specs.Step.{text, hosted, tued, step, Event}
 use Rattle.step.proofs.Ways.{lined_touches}
 use Rattle.step.proofs.Hearing.{text_none}
-use Rattle.demands.specs.Names.{Reader, Out, Nothing, One, Two, Finished, Settings, Route, Dropped, ToPrinter, ToHost, ToTu, Sender, State, Stream, Host, Line, Tu}
+use Rattle.demands.specs.Names.{Reader, Out, Nothing, One, Two, Finished, Route, Dropped, ToPrinter, ToHost, ToTu, Sender, State, Stream, Host, Line, Tu}
 use Rattle.demands.specs.Writes.{connection_ids, writing, writes_by, connects}
 use Rattle.demands.specs.Items.{carried_to, items_by, items_of}
 use Rattle.demands.proofs.Sessions.{lined_none}

@@ -23,15 +23,14 @@ use Rattle.motor.specs.Motor.{hearing_all, resting}
 use Rattle.motor.proofs.Calling.{sound_signals}
 use Rattle.motor.proofs.Turning.{started, starting, stopped_by, stopping}
 use Rattle.step.specs.Route.{route}
-use Rattle.step.specs.State.{fresh_box, with_reader, with_incoming}
+use Rattle.step.specs.State.{fresh_box, with_reader}
 use Rattle.step.specs.Hear.{listens, codes_asked, changes, motor_after, told_of}
-use Rattle.step.specs.Step.{text, hosted, lined, tued, step, Event, run}
+use Rattle.step.specs.Step.{text, hosted, tued, step, Event, run}
 use Rattle.step.proofs.Stays.{sound_parts, sound_run, fresh_sound}
 use Rattle.step.proofs.Ways.{lined_touches}
 use Rattle.step.proofs.Hearing.{none_heard, text_none, hearing_append, codes_append}
 use Rattle.demands.specs.Names.{Case, Letters, Figures, Calling, Settings, Reader, Out, Nothing, One, Two, Finished, Route, Dropped, ToPrinter, ToHost, ToTu, Wanted, State, Stream, Host, Line, Tu}
 use Rattle.demands.specs.Items.{carried_to, items_by, items_of}
-use Rattle.demands.specs.EveryCall.{Exactly}
 use Rattle.demands.specs.Writes.{forgetting_ids, writing, writes_by, forgets}
 use Rattle.demands.specs.Station.{hears, heard_from, heard_since, CodedBy, Coded, calling_after, Stationed, talks, Tells}
 use Rattle.demands.proofs.Writes.{forgets_by}
