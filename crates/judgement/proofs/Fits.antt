@@ -18,7 +18,7 @@ use Rattle.judgement.specs.Names.{Case, Letters, Figures, Kind, Still, Space, Re
 use Rattle.judgement.specs.Names.verdict
 use Rattle.judgement.specs.Stop.{clip, hear_stop}
 use Rattle.judgement.specs.Watch.{shown_by, within, moved, blurred, spot_char, watch_kind, watch}
-use Rattle.judgement.specs.Verdict.{is, own_char, own, lands, sign_as, meant_by, struck_by}
+use Rattle.judgement.specs.Verdict.{own_char, own, lands, sign_as, meant_by, struck_by}
 use Rattle.judgement.specs.Line.{final}
 use Rattle.judgement.specs.Page.{start, judgement}
 use Rattle.judgement.specs.Fits.{FitsCase, FitsSpot, FitsSign, send_case, Fits, Claims}
@@ -133,7 +133,7 @@ own_true {w} {p} {s} (Char bell) f = own_char_law bell w.fell w.meant p.case s f
 
 final_claims : (x : Option Spot) (l : Line) (v : Verdict) (p s : Case) → Claims v p s → Claims (final l x v) p s
 final_claims None l v p s h = h
-final_claims (Some (At n)) l v p s h = go (is (get_or l.stand n verdict.Nothing) verdict.Over) (eqb l.strays 0)
+final_claims (Some (At n)) l v p s h = go (eqb (get_or l.stand n 0) 3) (eqb l.strays 0)
   where
     go : (a b : Bool) → Claims (cond a verdict.Over (cond b v verdict.Unknown)) p s
     go true b = tt

@@ -8,9 +8,6 @@ use native.Mathlib.Omega.{arith}
 use lib.Dec.{eqb}
 use lib.ListN.{length, get_or}
 use borrow.Author.Tests.{eqb-true, eqb-false, ne_eqb}
-use Rattle.judgement.specs.Names.{Verdict}
-use Rattle.judgement.specs.Names.verdict
-use Rattle.judgement.specs.Verdict.{is}
 use Rattle.judgement.specs.Line.{count_of}
 
 pub sum : ℕ → (ℕ → ℕ) → ℕ
@@ -57,7 +54,7 @@ sum_shift zero h = refl
 sum_shift (suc k) h = omega (arith, sum_shift k h)
 
 -- a count over a list, as a sum over its places
-pub count_sum : (v : Verdict) (xs : List Verdict) → count_of v xs ≡ sum (length xs) (λ n. one (is (get_or xs n verdict.Nothing) v))
+pub count_sum : (v : ℕ) (xs : List ℕ) → count_of v xs ≡ sum (length xs) (λ n. one (eqb (get_or xs n 0) v))
 unfolding sum
 count_sum v [] = refl
-count_sum v (x ∷ xs) = omega (arith, count_sum v xs, sum_shift (length xs) (λ n. one (is (get_or (x ∷ xs) n verdict.Nothing) v)))
+count_sum v (x ∷ xs) = omega (arith, count_sum v xs, sum_shift (length xs) (λ n. one (eqb (get_or (x ∷ xs) n 0) v)))

@@ -15,7 +15,7 @@ use Rattle.code.specs.Kinds.{kind_of}
 use Rattle.judgement.specs.Names.{Case, Letters, Figures, Kind, Still, Space, Return, Shift, Char, Printer, Spot, At, From, Verdict, Watch, Line, Tally, Page}
 use Rattle.judgement.specs.Names.verdict
 use Rattle.judgement.specs.Watch.{shown_by, watch}
-use Rattle.judgement.specs.Verdict.{is, own_char, own, lands_char, lands, strike_of}
+use Rattle.judgement.specs.Verdict.{number_of, own_char, own, lands_char, lands, strike_of}
 use Rattle.judgement.specs.Line.{plus, bare, ink_of, stand_after, strike_at, strike, final_at, final, standing, count_of, alone, tally_by, tally_of}
 use Rattle.judgement.specs.Page.{feeds, page_after}
 use Rattle.judgement.specs.Struck.{NoFeed, page_after_all, watches, line_of, lands_at, struck_at, stand_at, stands_at, judged}
@@ -83,13 +83,13 @@ reached_sum {w} {p} {s} g (c ∷ cs) f l =
 
 -- The places that stand alone.
 
-stood : (n : ℕ) (w : Watch) (cs : List ℕ) (v : Verdict) → is verdict.Nothing v ≡ false → is verdict.Over v ≡ false → one (is (stands_at n w verdict.Nothing cs) v) ≡ struck_at n w cs * one (is (stands_at n w verdict.Nothing cs) v)
+stood : (n : ℕ) (w : Watch) (cs : List ℕ) (v : ℕ) → eqb 0 v ≡ false → eqb 3 v ≡ false → one (eqb (stands_at n w 0 cs) v) ≡ struck_at n w cs * one (eqb (stands_at n w 0 cs) v)
 stood n w cs v a b = go (eqb (struck_at n w cs) 0) (eqb (struck_at n w cs) 1) refl refl
   where
-    go : (p q : Bool) → eqb (struck_at n w cs) 0 ≡ p → eqb (struck_at n w cs) 1 ≡ q → one (is (stands_at n w verdict.Nothing cs) v) ≡ struck_at n w cs * one (is (stands_at n w verdict.Nothing cs) v)
+    go : (p q : Bool) → eqb (struck_at n w cs) 0 ≡ p → eqb (struck_at n w cs) 1 ≡ q → one (eqb (stands_at n w 0 cs) v) ≡ struck_at n w cs * one (eqb (stands_at n w 0 cs) v)
     go true q e d =
         let t : struck_at n w cs ≡ 0 = eqb-true _ _ e in
-        rw (unmarked n verdict.Nothing w cs t, a, t, zero-mul)
+        rw (unmarked n 0 w cs t, a, t, zero-mul)
     go false true e d = let t : struck_at n w cs ≡ 1 = eqb-true _ _ d in rw (t, one-mul)
     go false false e d =
         let t : 2 ≤ struck_at n w cs = omega (arith, eqb-false (struck_at n w cs) 0 e, eqb-false (struck_at n w cs) 1 d) in
@@ -102,18 +102,18 @@ line_length w l (c ∷ cs) = line_length (watch w c) (strike l (strike_of w c)) 
 -- a line on which nothing was struck
 pub record Clean (l : Line) : Type 0 where
   pub size : length l.stand ≡ 256
-  pub clear : (n : ℕ) → n < 256 → get_or l.stand n verdict.Nothing ≡ verdict.Nothing
+  pub clear : (n : ℕ) → n < 256 → get_or l.stand n 0 ≡ 0
   pub landed : l.landed ≡ 0
   pub strays : l.strays ≡ 0
 
-stands_from : (n : ℕ) (w : Watch) (l : Line) (cs : List ℕ) → Clean l → n < 256 → get_or (line_of w l cs).stand n verdict.Nothing ≡ stands_at n w verdict.Nothing cs
+stands_from : (n : ℕ) (w : Watch) (l : Line) (cs : List ℕ) → Clean l → n < 256 → get_or (line_of w l cs).stand n 0 ≡ stands_at n w 0 cs
 stands_from n w l cs k h = place_stands n w l cs (omega (arith, k.size)) ∙ rw (k.clear n h)
 
 module _ {w : Watch} {p : Printer} {s : Case} (l : Line) (cs : List ℕ) (f : Fits w p s) (b : w.stop < 256) (k : Clean l) where
-  abbrev stands_as : Verdict → ℕ → ℕ
-  stands_as v n = one (is (get_or (line_of w l cs).stand n verdict.Nothing) v)
+  abbrev stands_as : ℕ → ℕ → ℕ
+  stands_as v n = one (eqb (get_or (line_of w l cs).stand n 0) v)
 
-  count_right : (v : Verdict) → is verdict.Nothing v ≡ false → is verdict.Over v ≡ false → count_of v (line_of w l cs).stand ≡ reached (stands_as v) w cs
+  count_right : (v : ℕ) → eqb 0 v ≡ false → eqb 3 v ≡ false → count_of v (line_of w l cs).stand ≡ reached (stands_as v) w cs
   count_right v x y =
       let n : length (line_of w l cs).stand ≡ 256 = line_length w l cs ∙ k.size in
       let same = sum_same 256 (stands_as v) (λ n. struck_at n w cs * stands_as v n) (λ n h. rw (stands_from n w l cs k h) (stood n w cs v x y)) in
@@ -122,14 +122,14 @@ module _ {w : Watch} {p : Printer} {s : Case} (l : Line) (cs : List ℕ) (f : Fi
 -- A code's judgement.
 
 nowhere_char : (bell fell : Bool) (meant : Option Case) (s : Spot) → lands_char bell (shown_by fell meant) s ≡ None → own_char bell meant fell ≡ verdict.Nothing
-nowhere_char false fell meant (At n) e = cc
-nowhere_char false fell meant (From n) e = cc
-nowhere_char true true meant (At n) e = cc
-nowhere_char true true meant (From n) e = cc
-nowhere_char true false None (At n) e = cc
-nowhere_char true false None (From n) e = cc
-nowhere_char true false (Some Letters) (At n) e = cc
-nowhere_char true false (Some Letters) (From n) e = cc
+nowhere_char false fell meant (At n) e = let z : true ≡ false = cc in absurd (true≢false z)
+nowhere_char false fell meant (From n) e = let z : true ≡ false = cc in absurd (true≢false z)
+nowhere_char true true meant (At n) e = let z : true ≡ false = cc in absurd (true≢false z)
+nowhere_char true true meant (From n) e = let z : true ≡ false = cc in absurd (true≢false z)
+nowhere_char true false None (At n) e = let z : true ≡ false = cc in absurd (true≢false z)
+nowhere_char true false None (From n) e = let z : true ≡ false = cc in absurd (true≢false z)
+nowhere_char true false (Some Letters) (At n) e = let z : true ≡ false = cc in absurd (true≢false z)
+nowhere_char true false (Some Letters) (From n) e = let z : true ≡ false = cc in absurd (true≢false z)
 nowhere_char true false (Some Figures) s e = refl
 
 -- what is struck nowhere has nothing to print
@@ -141,25 +141,28 @@ nowhere w (Shift to) e = refl
 nowhere w (Char bell) e = nowhere_char bell w.fell w.meant w.spot e
 
 -- the place of a code that is struck stands by that code, or is struck over
-outcome : (m : ℕ) (was v : Verdict) (w : Watch) (cs : List ℕ) → single v ≡ true → (stands_at m w (stand_after was v) cs ≡ v) ⊎ (stands_at m w (stand_after was v) cs ≡ verdict.Over)
-outcome m was v w cs z = go (is was verdict.Nothing) (eqb (struck_at m w cs) 0) refl
+outcome : (m was v : ℕ) (w : Watch) (cs : List ℕ) → single v ≡ true → (stands_at m w (cond (eqb was 0) v 3) cs ≡ v) ⊎ (stands_at m w (cond (eqb was 0) v 3) cs ≡ 3)
+outcome m was v w cs z = go (eqb was 0) (eqb (struck_at m w cs) 0) refl
   where
-    go : (a b : Bool) → eqb (struck_at m w cs) 0 ≡ b → (stands_at m w (cond a v verdict.Over) cs ≡ v) ⊎ (stands_at m w (cond a v verdict.Over) cs ≡ verdict.Over)
+    go : (a b : Bool) → eqb (struck_at m w cs) 0 ≡ b → (stands_at m w (cond a v 3) cs ≡ v) ⊎ (stands_at m w (cond a v 3) cs ≡ 3)
     go false b e = inr (spoiled m w cs)
     go true true e = inl (unmarked m v w cs (eqb-true _ _ e))
     go true false e = inr (marked m v w cs z (omega (arith, eqb-false (struck_at m w cs) 0 e)))
 
 -- so its judgement is how the place stands
-as_stands : (v x : Verdict) (strays : ℕ) → single v ≡ true → (x ≡ v) ⊎ (x ≡ verdict.Over) → final_at x strays v ≡ standing strays x
+as_stands : (v : Verdict) (x strays : ℕ) → single (number_of v) ≡ true → (x ≡ number_of v) ⊎ (x ≡ 3) → number_of (final_at x strays v) ≡ standing strays x
 as_stands v x strays z (inr e) = rw e
 as_stands v x strays z (inl e) = rw e (go v (eqb strays 0) z)
   where
-    go : (v : Verdict) (b : Bool) → single v ≡ true → cond (is v verdict.Over) verdict.Over (cond b v verdict.Unknown) ≡ cond (is v verdict.Nothing) verdict.Nothing (cond (is v verdict.Over) verdict.Over (cond b v verdict.Unknown))
+    go : (v : Verdict) (b : Bool) → single (number_of v) ≡ true → number_of (cond (eqb (number_of v) 3) verdict.Over (cond b v verdict.Unknown)) ≡ cond (eqb (number_of v) 0) 0 (cond (eqb (number_of v) 3) 3 (cond b (number_of v) 4))
     go verdict.Nothing b z = absurd (true≢false (sym z))
-    go verdict.Kept b z = refl
-    go verdict.Turned b z = refl
+    go verdict.Kept true z = refl
+    go verdict.Kept false z = refl
+    go verdict.Turned true z = refl
+    go verdict.Turned false z = refl
     go verdict.Over b z = refl
-    go verdict.Unknown b z = refl
+    go verdict.Unknown true z = refl
+    go verdict.Unknown false z = refl
 
 -- strays, by whether they count
 abbrev drift : Bool → Option Spot → ℕ
@@ -172,49 +175,49 @@ drifting b w [] = 0
 drifting b w (c ∷ cs) = drift b (lands w (kind_of c)) + drifting b (watch w c) cs
 
 -- a place that was struck
-abbrev met : Verdict → Bool
-met x = single x || is x verdict.Over
+abbrev met : ℕ → Bool
+met x = single x || eqb x 3
 
-abbrev Met : (ℕ → Verdict) → Option Spot → Type 0
+abbrev Met : (ℕ → ℕ) → Option Spot → Type 0
 Met F None = Unit
 Met F (Some (At m)) = met (F m) ≡ true
 Met F (Some (From m)) = Unit
 
-abbrev AllMet : (ℕ → Verdict) → Watch → List ℕ → Type 0
+abbrev AllMet : (ℕ → ℕ) → Watch → List ℕ → Type 0
 AllMet F w [] = Unit
 AllMet F w (c ∷ cs) = Met F (lands w (kind_of c)) × AllMet F (watch w c) cs
 
-met_of : (x v : Verdict) → single v ≡ true → (x ≡ v) ⊎ (x ≡ verdict.Over) → met x ≡ true
+met_of : (x v : ℕ) → single v ≡ true → (x ≡ v) ⊎ (x ≡ 3) → met x ≡ true
 met_of x v z (inl e) = rw (e, z)
 met_of x v z (inr e) = rw e
 
 -- the line `l` is how the codes leave it, where each place stood as `was` says
-abbrev Leave : Line → (ℕ → Verdict) → Watch → List ℕ → Type 0
-Leave l was w cs = (n : ℕ) → n < 256 → get_or l.stand n verdict.Nothing ≡ stands_at n w (was n) cs
+abbrev Leave : Line → (ℕ → ℕ) → Watch → List ℕ → Type 0
+Leave l was w cs = (n : ℕ) → n < 256 → get_or l.stand n 0 ≡ stands_at n w (was n) cs
 
-there : (l : Line) (was : ℕ → Verdict) (w : Watch) (c : ℕ) (cs : List ℕ) (m : ℕ) → Leave l was w (c ∷ cs) → m < 256 → lands w (kind_of c) ≡ Some (At m) → (get_or l.stand m verdict.Nothing ≡ own w (kind_of c)) ⊎ (get_or l.stand m verdict.Nothing ≡ verdict.Over)
+there : (l : Line) (was : ℕ → ℕ) (w : Watch) (c : ℕ) (cs : List ℕ) (m : ℕ) → Leave l was w (c ∷ cs) → m < 256 → lands w (kind_of c) ≡ Some (At m) → (get_or l.stand m 0 ≡ number_of (own w (kind_of c))) ⊎ (get_or l.stand m 0 ≡ 3)
 there l was w c cs m h b e =
-    let q : get_or l.stand m verdict.Nothing ≡ stands_at m (watch w c) (stand_after (was m) (own w (kind_of c))) cs = h m b ∙ rw (e, eq-eqb m m refl) in
-    rw q (outcome m (was m) (own w (kind_of c)) (watch w c) cs (single_lands w (kind_of c) m e))
+    let q : get_or l.stand m 0 ≡ stands_at m (watch w c) (stand_after (was m) (own w (kind_of c))) cs = h m b ∙ rw (e, eq-eqb m m refl) in
+    rw q (outcome m (was m) (number_of (own w (kind_of c))) (watch w c) cs (single_lands w (kind_of c) m e))
 
-all_met : {w : Watch} {p : Printer} {s : Case} (l : Line) (was : ℕ → Verdict) (cs : List ℕ) → Fits w p s → w.stop < 256 → Leave l was w cs → AllMet (λ n. get_or l.stand n verdict.Nothing) w cs
+all_met : {w : Watch} {p : Printer} {s : Case} (l : Line) (was : ℕ → ℕ) (cs : List ℕ) → Fits w p s → w.stop < 256 → Leave l was w cs → AllMet (λ n. get_or l.stand n 0) w cs
 all_met l was [] f b h = tt
 all_met {w} {p} {s} l was (c ∷ cs) f b h = (go (lands w (kind_of c)) refl, all_met {w = watch w c} l (λ n. stand_at n (lands w (kind_of c)) (was n) (own w (kind_of c))) cs (fits c f) b h)
   where
-    go : (x : Option Spot) → lands w (kind_of c) ≡ x → Met (λ n. get_or l.stand n verdict.Nothing) x
+    go : (x : Option Spot) → lands w (kind_of c) ≡ x → Met (λ n. get_or l.stand n 0) x
     go None e = tt
-    go (Some (At m)) e = met_of _ (own w (kind_of c)) (single_lands w (kind_of c) m e) (there l was w c cs m h (rw e at (short (kind_of c) f b)) e)
+    go (Some (At m)) e = met_of _ (number_of (own w (kind_of c))) (single_lands w (kind_of c) m e) (there l was w c cs m h (rw e at (short (kind_of c) f b)) e)
     go (Some (From m)) e = tt
 
 -- how many codes are judged so, by how their places stand
-judged_by : {w : Watch} {p : Printer} {s : Case} (v : Verdict) (l : Line) (was : ℕ → Verdict) (cs : List ℕ) → is verdict.Nothing v ≡ false → Fits w p s → w.stop < 256 → Leave l was w cs → judged v w l cs ≡ reached (λ n. one (is (standing l.strays (get_or l.stand n verdict.Nothing)) v)) w cs + drifting (is verdict.Unknown v) w cs
+judged_by : {w : Watch} {p : Printer} {s : Case} (v : ℕ) (l : Line) (was : ℕ → ℕ) (cs : List ℕ) → eqb 0 v ≡ false → Fits w p s → w.stop < 256 → Leave l was w cs → judged v w l cs ≡ reached (λ n. one (eqb (standing l.strays (get_or l.stand n 0)) v)) w cs + drifting (eqb 4 v) w cs
 judged_by v l was [] z f b h = refl
 judged_by {w} {p} {s} v l was (c ∷ cs) z f b h = omega (arith, go (lands w (kind_of c)) refl, judged_by {w = watch w c} v l (λ n. stand_at n (lands w (kind_of c)) (was n) (own w (kind_of c))) cs z (fits c f) b h)
   where
-    go : (x : Option Spot) → lands w (kind_of c) ≡ x → one (is (final l x (own w (kind_of c))) v) ≡ weigh (λ n. one (is (standing l.strays (get_or l.stand n verdict.Nothing)) v)) x + drift (is verdict.Unknown v) x
+    go : (x : Option Spot) → lands w (kind_of c) ≡ x → one (eqb (number_of (final l x (own w (kind_of c)))) v) ≡ weigh (λ n. one (eqb (standing l.strays (get_or l.stand n 0)) v)) x + drift (eqb 4 v) x
     go None e = rw (nowhere w (kind_of c) e, z)
     go (Some (At m)) e =
-        let q = as_stands (own w (kind_of c)) (get_or l.stand m verdict.Nothing) l.strays (single_lands w (kind_of c) m e) (there l was w c cs m h (rw e at (short (kind_of c) f b)) e) in
+        let q = as_stands (own w (kind_of c)) (get_or l.stand m 0) l.strays (single_lands w (kind_of c) m e) (there l was w c cs m h (rw e at (short (kind_of c) f b)) e) in
         rw q (omega arith)
     go (Some (From m)) e = omega arith
 
@@ -229,7 +232,7 @@ reached_add g h w (c ∷ cs) = omega (arith, both (lands w (kind_of c)), reached
     both (Some (At m)) = refl
     both (Some (From m)) = refl
 
-reached_same : (F : ℕ → Verdict) (g h : ℕ → ℕ) (w : Watch) (cs : List ℕ) → AllMet F w cs → ((m : ℕ) → met (F m) ≡ true → g m ≡ h m) → reached g w cs ≡ reached h w cs
+reached_same : (F g h : ℕ → ℕ) (w : Watch) (cs : List ℕ) → AllMet F w cs → ((m : ℕ) → met (F m) ≡ true → g m ≡ h m) → reached g w cs ≡ reached h w cs
 reached_same F g h w [] a e = refl
 reached_same F g h w (c ∷ cs) a e = omega (arith, alike (lands w (kind_of c)) a.0, reached_same F g h (watch w c) cs a.1 e)
   where
@@ -301,114 +304,117 @@ strays_right w l (c ∷ cs) h =
 
 -- How a place that was struck stands.
 
-met_cases : (P : Verdict → Type 0) (x : Verdict) → met x ≡ true → P verdict.Kept → P verdict.Turned → P verdict.Unknown → P verdict.Over → P x
-met_cases P verdict.Nothing h a b c d = absurd (true≢false (sym h))
-met_cases P verdict.Kept h a b c d = a
-met_cases P verdict.Turned h a b c d = b
-met_cases P verdict.Over h a b c d = d
-met_cases P verdict.Unknown h a b c d = c
+met_cases : (P : ℕ → Type 0) (x : ℕ) → met x ≡ true → P 1 → P 2 → P 4 → P 3 → P x
+met_cases P x h a b c d = go (eqb x 1) (eqb x 2) (eqb x 4) (eqb x 3) refl refl refl refl h
+  where
+    go : (p q r s : Bool) → eqb x 1 ≡ p → eqb x 2 ≡ q → eqb x 4 ≡ r → eqb x 3 ≡ s → (p || q || r || s) ≡ true → P x
+    go true q r s e f g i t = rw (eqb-true x 1 e) a
+    go false true r s e f g i t = rw (eqb-true x 2 f) b
+    go false false true s e f g i t = rw (eqb-true x 4 g) c
+    go false false false true e f g i t = rw (eqb-true x 3 i) d
+    go false false false false e f g i t = absurd (true≢false (sym t))
 
-abbrev held : Verdict → ℕ
-held x = one (is x verdict.Kept) + one (is x verdict.Turned) + one (is x verdict.Unknown)
+abbrev held : ℕ → ℕ
+held x = one (eqb x 1) + one (eqb x 2) + one (eqb x 4)
 
-each : (x : Verdict) → met x ≡ true → 1 ≡ held x + one (is x verdict.Over)
-each x h = met_cases (λ y. 1 ≡ held y + one (is y verdict.Over)) x h refl refl refl refl
+each : (x : ℕ) → met x ≡ true → 1 ≡ held x + one (eqb x 3)
+each x h = met_cases (λ y. 1 ≡ held y + one (eqb y 3)) x h refl refl refl refl
 
-over_alike : (s : ℕ) (x : Verdict) → met x ≡ true → one (is (standing s x) verdict.Over) ≡ one (is x verdict.Over)
+over_alike : (s x : ℕ) → met x ≡ true → one (eqb (standing s x) 3) ≡ one (eqb x 3)
 over_alike s x h = go (eqb s 0) refl
   where
-    go : (b : Bool) → eqb s 0 ≡ b → one (is (standing s x) verdict.Over) ≡ one (is x verdict.Over)
-    go true e = met_cases (λ y. one (is (standing s y) verdict.Over) ≡ one (is y verdict.Over)) x h (rw e) (rw e) (rw e) refl
-    go false e = met_cases (λ y. one (is (standing s y) verdict.Over) ≡ one (is y verdict.Over)) x h (rw e) (rw e) (rw e) refl
+    go : (b : Bool) → eqb s 0 ≡ b → one (eqb (standing s x) 3) ≡ one (eqb x 3)
+    go true e = met_cases (λ y. one (eqb (standing s y) 3) ≡ one (eqb y 3)) x h (rw e) (rw e) (rw e) refl
+    go false e = met_cases (λ y. one (eqb (standing s y) 3) ≡ one (eqb y 3)) x h (rw e) (rw e) (rw e) refl
 
-plain : (s : ℕ) (x : Verdict) → eqb s 0 ≡ true → met x ≡ true → standing s x ≡ x
+plain : (s x : ℕ) → eqb s 0 ≡ true → met x ≡ true → standing s x ≡ x
 plain s x e h = met_cases (λ y. standing s y ≡ y) x h (rw e) (rw e) (rw e) refl
 
-clouded : (s : ℕ) (x : Verdict) → eqb s 0 ≡ false → met x ≡ true → one (is (standing s x) verdict.Unknown) ≡ held x
-clouded s x e h = met_cases (λ y. one (is (standing s y) verdict.Unknown) ≡ held y) x h (rw e) (rw e) (rw e) refl
+clouded : (s x : ℕ) → eqb s 0 ≡ false → met x ≡ true → one (eqb (standing s x) 4) ≡ held x
+clouded s x e h = met_cases (λ y. one (eqb (standing s y) 4) ≡ held y) x h (rw e) (rw e) (rw e) refl
 
-hidden : (s : ℕ) (x v : Verdict) → eqb s 0 ≡ false → is verdict.Over v ≡ false → is verdict.Unknown v ≡ false → met x ≡ true → one (is (standing s x) v) ≡ 0
-hidden s x v e a b h = met_cases (λ y. one (is (standing s y) v) ≡ 0) x h (rw (e, b)) (rw (e, b)) (rw (e, b)) (rw a)
+hidden : (s x v : ℕ) → eqb s 0 ≡ false → eqb 3 v ≡ false → eqb 4 v ≡ false → met x ≡ true → one (eqb (standing s x) v) ≡ 0
+hidden s x v e a b h = met_cases (λ y. one (eqb (standing s y) v) ≡ 0) x h (rw (e, b)) (rw (e, b)) (rw (e, b)) (rw a)
 
 -- The tally.
 
 -- how many of a line's codes are judged so
 abbrev pub counted : Watch → Line → List ℕ → Tally
-counted w l cs = record { kept = judged verdict.Kept w l cs; turned = judged verdict.Turned w l cs; over = judged verdict.Over w l cs; unknown = judged verdict.Unknown w l cs }
+counted w l cs = record { kept = judged 1 w l cs; turned = judged 2 w l cs; over = judged 3 w l cs; unknown = judged 4 w l cs }
 
 module _ {w : Watch} {p : Printer} {s : Case} (l : Line) (cs : List ℕ) (f : Fits w p s) (b : w.stop < 256) (k : Clean l) (few : length cs ≤ most) where
   abbrev L : Line
   L = line_of w l cs
 
-  abbrev F : ℕ → Verdict
-  F n = get_or L.stand n verdict.Nothing
+  abbrev F : ℕ → ℕ
+  F n = get_or L.stand n 0
 
-  leave : Leave L (λ n. verdict.Nothing) w cs
+  leave : Leave L (λ n. 0) w cs
   leave n h = stands_from n w l cs k h
 
   all : AllMet F w cs
-  all = all_met L (λ n. verdict.Nothing) cs f b leave
+  all = all_met L (λ n. 0) cs f b leave
 
-  judged_as : (v : Verdict) → is verdict.Nothing v ≡ false → judged v w L cs ≡ reached (λ n. one (is (standing L.strays (F n)) v)) w cs + drifting (is verdict.Unknown v) w cs
-  judged_as v z = judged_by v L (λ n. verdict.Nothing) cs z f b leave
+  judged_as : (v : ℕ) → eqb 0 v ≡ false → judged v w L cs ≡ reached (λ n. one (eqb (standing L.strays (F n)) v)) w cs + drifting (eqb 4 v) w cs
+  judged_as v z = judged_by v L (λ n. 0) cs z f b leave
 
   singles : alone L ≡ reached (λ n. held (F n)) w cs
   singles =
-      let c1 = count_right l cs f b k verdict.Kept refl refl in
-      let c2 = count_right l cs f b k verdict.Turned refl refl in
-      let c4 = count_right l cs f b k verdict.Unknown refl refl in
-      let a = reached_add (λ n. one (is (F n) verdict.Kept)) (λ n. one (is (F n) verdict.Turned)) w cs in
-      let d = reached_add (λ n. one (is (F n) verdict.Kept) + one (is (F n) verdict.Turned)) (λ n. one (is (F n) verdict.Unknown)) w cs in
+      let c1 = count_right l cs f b k 1 refl refl in
+      let c2 = count_right l cs f b k 2 refl refl in
+      let c4 = count_right l cs f b k 4 refl refl in
+      let a = reached_add (λ n. one (eqb (F n) 1)) (λ n. one (eqb (F n) 2)) w cs in
+      let d = reached_add (λ n. one (eqb (F n) 1) + one (eqb (F n) 2)) (λ n. one (eqb (F n) 4)) w cs in
       omega (arith, c1, c2, c4, a, d)
 
-  over_right : L.landed - alone L ≡ judged verdict.Over w L cs
+  over_right : L.landed - alone L ≡ judged 3 w L cs
   over_right =
       let t = landed_right w l cs (omega (arith, k.landed)) in
-      let e = reached_same F (λ n. 1) (λ n. held (F n) + one (is (F n) verdict.Over)) w cs all (λ m h. each (F m) h) in
-      let a = reached_add (λ n. held (F n)) (λ n. one (is (F n) verdict.Over)) w cs in
-      let o = reached_same F (λ n. one (is (standing L.strays (F n)) verdict.Over)) (λ n. one (is (F n) verdict.Over)) w cs all (λ m h. over_alike L.strays (F m) h) in
-      omega (arith, t, k.landed, e, a, o, singles, judged_as verdict.Over refl, drifting_none w cs)
+      let e = reached_same F (λ n. 1) (λ n. held (F n) + one (eqb (F n) 3)) w cs all (λ m h. each (F m) h) in
+      let a = reached_add (λ n. held (F n)) (λ n. one (eqb (F n) 3)) w cs in
+      let o = reached_same F (λ n. one (eqb (standing L.strays (F n)) 3)) (λ n. one (eqb (F n) 3)) w cs all (λ m h. over_alike L.strays (F m) h) in
+      omega (arith, t, k.landed, e, a, o, singles, judged_as 3 refl, drifting_none w cs)
 
   strayed : L.strays ≡ drifting true w cs
   strayed = omega (arith, strays_right w l cs (omega (arith, k.strays)), k.strays)
 
   -- no stray: a place that stands alone is one code judged so
-  plain_right : (v : Verdict) → is verdict.Nothing v ≡ false → is verdict.Over v ≡ false → eqb L.strays 0 ≡ true → count_of v L.stand ≡ judged v w L cs
+  plain_right : (v : ℕ) → eqb 0 v ≡ false → eqb 3 v ≡ false → eqb L.strays 0 ≡ true → count_of v L.stand ≡ judged v w L cs
   plain_right v z y e =
-      let o = reached_same F (λ n. one (is (standing L.strays (F n)) v)) (λ n. one (is (F n) v)) w cs all (λ m h. rw (plain L.strays (F m) e h)) in
-      omega (arith, count_right l cs f b k v z y, o, judged_as v z, no_drift (is verdict.Unknown v))
+      let o = reached_same F (λ n. one (eqb (standing L.strays (F n)) v)) (λ n. one (eqb (F n) v)) w cs all (λ m h. rw (plain L.strays (F m) e h)) in
+      omega (arith, count_right l cs f b k v z y, o, judged_as v z, no_drift (eqb 4 v))
     where
       no_drift : (q : Bool) → drifting q w cs ≡ 0
       no_drift true = sym strayed ∙ eqb-true _ _ e
       no_drift false = drifting_none w cs
 
   -- a stray: nothing is sure to be kept or turned
-  none_right : (v : Verdict) → is verdict.Nothing v ≡ false → is verdict.Over v ≡ false → is verdict.Unknown v ≡ false → eqb L.strays 0 ≡ false → 0 ≡ judged v w L cs
+  none_right : (v : ℕ) → eqb 0 v ≡ false → eqb 3 v ≡ false → eqb 4 v ≡ false → eqb L.strays 0 ≡ false → 0 ≡ judged v w L cs
   none_right v z y x e =
-      let o = reached_same F (λ n. one (is (standing L.strays (F n)) v)) (λ n. 0) w cs all (λ m h. hidden L.strays (F m) v e y x h) in
-      let d : drifting (is verdict.Unknown v) w cs ≡ 0 = rw x (drifting_none w cs) in
+      let o = reached_same F (λ n. one (eqb (standing L.strays (F n)) v)) (λ n. 0) w cs all (λ m h. hidden L.strays (F m) v e y x h) in
+      let d : drifting (eqb 4 v) w cs ≡ 0 = rw x (drifting_none w cs) in
       omega (arith, o, reached_none w cs, judged_as v z, d)
 
-  unknown_right : eqb L.strays 0 ≡ false → plus (alone L) L.strays ≡ judged verdict.Unknown w L cs
+  unknown_right : eqb L.strays 0 ≡ false → plus (alone L) L.strays ≡ judged 4 w L cs
   unknown_right e =
-      let o = reached_same F (λ n. one (is (standing L.strays (F n)) verdict.Unknown)) (λ n. held (F n)) w cs all (λ m h. clouded L.strays (F m) e h) in
-      let h = reached_same F (λ n. 1) (λ n. held (F n) + one (is (F n) verdict.Over)) w cs all (λ m h. each (F m) h) in
-      let a = reached_add (λ n. held (F n)) (λ n. one (is (F n) verdict.Over)) w cs in
-      omega (arith, o, h, a, singles, strayed, judged_as verdict.Unknown refl, parts w cs)
+      let o = reached_same F (λ n. one (eqb (standing L.strays (F n)) 4)) (λ n. held (F n)) w cs all (λ m h. clouded L.strays (F m) e h) in
+      let h = reached_same F (λ n. 1) (λ n. held (F n) + one (eqb (F n) 3)) w cs all (λ m h. each (F m) h) in
+      let a = reached_add (λ n. held (F n)) (λ n. one (eqb (F n) 3)) w cs in
+      omega (arith, o, h, a, singles, strayed, judged_as 4 refl, parts w cs)
 
   -- the tally of a line counts the judgements of its codes
   pub tally_right : tally_of L ≡ counted w L cs
   tally_right = go (eqb L.strays 0) refl
     where
       go : (q : Bool) → eqb L.strays 0 ≡ q → tally_by q L ≡ counted w L cs
-      go true e = rw (over_right, plain_right verdict.Kept refl refl e, plain_right verdict.Turned refl refl e, plain_right verdict.Unknown refl refl e)
-      go false e = rw (over_right, unknown_right e, ← none_right verdict.Kept refl refl refl e, ← none_right verdict.Turned refl refl refl e)
+      go true e = rw (over_right, plain_right 1 refl refl e, plain_right 2 refl refl e, plain_right 4 refl refl e)
+      go false e = rw (over_right, unknown_right e, ← none_right 1 refl refl refl e, ← none_right 2 refl refl refl e)
 
 -- The page.
 
 -- each line begins clean
 pub bare_clean : Clean bare
-bare_clean = record { size = refl; clear = λ n h. get_or-replicate 256 n verdict.Nothing verdict.Nothing h; landed = refl; strays = refl }
+bare_clean = record { size = refl; clear = λ n h. get_or-replicate 256 n 0 0 h; landed = refl; strays = refl }
 
 -- codes that do not feed stay on the line
 pub line_taken : (s : Page) (cs : List ℕ) → NoFeed cs → page_after_all s cs ≡ record { watch = watches s.watch cs; line = line_of s.watch s.line cs; total = s.total }

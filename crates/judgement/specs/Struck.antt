@@ -3,7 +3,7 @@ use Rattle.std.specs.Prelude.{Option, Some, None, ℕ, ◌+◌, ◌≡◌, false
 use Rattle.code.specs.Kinds.{kind_of}
 use Rattle.judgement.specs.Names.{Verdict, Watch, Line, Page, Spot, At, From}
 use Rattle.judgement.specs.Watch.{watch}
-use Rattle.judgement.specs.Verdict.{is, lands, own, strike_of}
+use Rattle.judgement.specs.Verdict.{number_of, lands, own, strike_of}
 use Rattle.judgement.specs.Line.{stand_after, strike}
 use Rattle.judgement.specs.Page.{feeds, page_after, judgement}
 
@@ -23,19 +23,19 @@ struck_at n w [] = 0
 struck_at n w (c ∷ cs) = lands_at n (lands w (kind_of c)) + struck_at n (watch w c) cs
 
 -- how a place stands after a code, and after many
-abbrev pub stand_at : ℕ → Option Spot → Verdict → Verdict → Verdict
+abbrev pub stand_at : ℕ → Option Spot → ℕ → Verdict → ℕ
 stand_at n None was v = was
 stand_at n (Some (At m)) was v = cond (eqb m n) (stand_after was v) was
 stand_at n (Some (From m)) was v = was
 
-abbrev pub stands_at : ℕ → Watch → Verdict → List ℕ → Verdict
+abbrev pub stands_at : ℕ → Watch → ℕ → List ℕ → ℕ
 stands_at n w was [] = was
 stands_at n w was (c ∷ cs) = stands_at n (watch w c) (stand_at n (lands w (kind_of c)) was (own w (kind_of c))) cs
 
 -- how many of the codes are judged so, by the line as it stands in the end
-abbrev pub judged : Verdict → Watch → Line → List ℕ → ℕ
+abbrev pub judged : ℕ → Watch → Line → List ℕ → ℕ
 judged v w l [] = 0
-judged v w l (c ∷ cs) = cond (is (judgement w l c).verdict v) 1 0 + judged v (watch w c) l cs
+judged v w l (c ∷ cs) = cond (eqb (number_of (judgement w l c).verdict) v) 1 0 + judged v (watch w c) l cs
 
 -- the page and what is known after many codes
 abbrev pub page_after_all : Page → List ℕ → Page

@@ -1,5 +1,5 @@
 -- The judgement of a code by itself: what was meant, what was struck and where, and whether one is the other.
-use Rattle.std.specs.Prelude.{Option, Some, None, Result, Ok, Err, ℕ, Bool, true, false, eqb}
+use Rattle.std.specs.Prelude.{Option, Some, None, Result, Ok, Err, ℕ, Bool, true, false}
 use Rattle.code.specs.Rows.{row_at}
 use Rattle.code.specs.Kinds.{kind_of}
 use Rattle.judgement.specs.Names.{Case, Letters, Figures, Kind, Still, Space, Return, Shift, Char, Spot, At, From, Verdict, NoCode, Watch, Strike}
@@ -13,10 +13,6 @@ number_of verdict.Kept = 1
 number_of verdict.Turned = 2
 number_of verdict.Over = 3
 number_of verdict.Unknown = 4
-
--- two verdicts are one
-abbrev pub is : Verdict → Verdict → Bool
-is a b = eqb (number_of a) (number_of b)
 
 -- the number of an answer: 0 where all was taken, and 2 at a code over 31
 abbrev pub answer_of : Result (Unit {0}) NoCode → ℕ

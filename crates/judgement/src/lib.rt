@@ -17,7 +17,7 @@ pub enum Spot {
 }
 
 // Whether what a code was to print stands on the paper.
-#[derive(Clone, Copy, PartialEq, Eq)]
+#[derive(Clone, Copy)]
 pub enum Verdict {
     Nothing,
     Kept,
@@ -81,13 +81,13 @@ pub struct Tally {
     pub unknown: u64,
 }
 
-// A line of the paper. At each place: what is seen, and how it stands, Nothing where nothing was struck. What is struck at
+// A line of the paper. At each place: what is seen, and the number of its verdict, 0 where nothing was struck. What is struck at
 // a place that is not known drifts: it is held by the first place that it may be at. With it, how many of each there were.
 // The three rows stay apart: each is shown whole, and the laws of what stands (`over_if`, `over_only`) speak of `stand` alone.
 #[derive(Clone, Copy)]
 pub struct Line {
     pub ink: [u8; 256],
-    pub stand: [Verdict; 256],
+    pub stand: [u8; 256],
     pub drift: [u8; 256],
     pub landed: u64,
     pub strays: u64,

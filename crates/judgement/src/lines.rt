@@ -17,50 +17,48 @@ impl From<Verdict> for u8 {
 }
 
 // How a place stands that is struck.
-fn stand_after(was: Verdict, v: Verdict) -> Verdict
+fn stand_after(was: u8, v: Verdict) -> u8
     ensures { result ≡ stand_after was v }
 {
-    match was {
-        Verdict::Nothing => v,
-        _ => Verdict::Over,
-    }
+    if was == 0 { u8::from(v) } else { 3 }
 }
 
-// What is seen of one character, where the place was bare, or of more.
-fn seen(bare: bool, ink: u8, more: u8) -> u8
-    ensures { result ≡ seen bare ink more }
+// What is seen of one character, or of more.
+fn seen(was: u8, ink: u8, more: u8) -> u8
+    ensures { result ≡ seen was ink more }
 {
-    if bare { ink } else { more }
+    if was == 0 { ink } else { more }
 }
 
 // Whether a character at a known place stands in the end.
-fn final_at(stand: Verdict, strays: u64, v: Verdict) -> Verdict
+fn final_at(stand: u8, strays: u64, v: Verdict) -> Verdict
     ensures { result ≡ final_at stand strays v }
 {
     match stand {
-        Verdict::Over => Verdict::Over,
+        3 => Verdict::Over,
         _ if strays == 0 => v,
         _ => Verdict::Unknown,
     }
 }
 
-// How a place stands in the end.
-fn standing(strays: u64, stand: Verdict) -> Verdict
+// How a place stands in the end, by number; 0 where nothing was struck.
+fn standing(strays: u64, stand: u8) -> u8
     ensures { result ≡ standing strays stand }
 {
     match stand {
-        Verdict::Nothing | Verdict::Over => stand,
+        0 | 3 => stand,
         _ if strays == 0 => stand,
-        _ => Verdict::Unknown,
+        _ => 4,
     }
 }
 
 // How many places stand so.
-fn count_of(v: Verdict, stand: &[Verdict; 256]) -> u64
+fn count_of(v: Verdict, stand: &[u8; 256]) -> u64
     ensures most { result ≤ 256 }
-    ensures count { result ≡ count_of v stand.now }
+    ensures count { result ≡ count_of (number_of v) stand.now }
 {
-    stand.iter().filter(|x| **x == v).count() as u64
+    let n = u8::from(v);
+    stand.iter().filter(|x| **x == n).count() as u64
 }
 
 impl Line {
@@ -70,7 +68,7 @@ impl Line {
     {
         Line {
             ink: [0; 256],
-            stand: [Verdict::Nothing; 256],
+            stand: [0; 256],
             drift: [0; 256],
             landed: 0,
             strays: 0,
@@ -87,13 +85,13 @@ impl Line {
             Some(Spot::At(n)) => {
                 let i = usize::from(n);
                 let was = self.stand[i];
-                self.ink[i] = seen(was == Verdict::Nothing, ink, b'*');
+                self.ink[i] = seen(was, ink, b'*');
                 self.stand[i] = stand_after(was, s.own);
                 self.landed = self.landed.saturating_add(1);
             }
             Some(Spot::From(n)) => {
                 let i = usize::from(n);
-                self.drift[i] = seen(self.drift[i] == 0, ink, b'~');
+                self.drift[i] = seen(self.drift[i], ink, b'~');
                 self.strays = self.strays.saturating_add(1);
             }
         }
@@ -111,7 +109,7 @@ impl Line {
     }
 
     // How each place stands in the end.
-    pub fn standings(&self) -> [Verdict; 256]
+    pub fn standings(&self) -> [u8; 256]
         ensures { result ≡ standings self.now.strays self.now.stand }
     {
         let strays = self.strays;

@@ -2,9 +2,6 @@
 use Rattle.std.specs.Prelude.{ℕ, ◌+◌, Bool, cond, ◌||◌, List, [], ◌∷◌, ◌==◌, nat_lt, Option, Some, None}
 use Rattle.std.specs.Option.{option_map_or}
 use Rattle.judgement.specs.declared.Line.{Line}
-use Rattle.judgement.specs.declared.Verdict.{Verdict}
-use Rattle.judgement.specs.declared.Verdict.TheVariants as verdict
-use Rattle.judgement.specs.Verdict.{is}
 use Rattle.paper.specs.declared.show.Stretch.{Stretch}
 
 -- anything was struck
@@ -30,5 +27,5 @@ abbrev pub longer : Option Stretch → ℕ → Option Stretch
 longer s i = Some (record { from = option_map_or (λ (x : Stretch). x.from) s i; to = i })
 
 -- the stretch after a place that stands so, of those that stand as v: another kind ends it, and a bare place does not
-abbrev pub after_place : Option Stretch → ℕ → Verdict → Verdict → Option Stretch
-after_place s i stand v = cond (is stand v) (longer s i) (cond (is stand verdict.Nothing) s None)
+abbrev pub after_place : Option Stretch → ℕ → ℕ → ℕ → Option Stretch
+after_place s i stand v = cond (stand == v) (longer s i) (cond (stand == 0) s None)

@@ -51,8 +51,8 @@ fn print_stretch(out: &mut Output<'_, impl Print>, s: Stretch) {
 }
 
 // Prints the places that stand as `v`, after a name, if there are any.
-fn print_places(out: &mut Output<'_, impl Print>, name: &str, standings: &[Verdict], v: Verdict) {
-    if standings.contains(&v) {
+fn print_places(out: &mut Output<'_, impl Print>, name: &str, standings: &[u8], v: Verdict) {
+    if standings.contains(&u8::from(v)) {
         out.print(name);
     }
     let mut held = None;
@@ -72,7 +72,7 @@ fn print_places(out: &mut Output<'_, impl Print>, name: &str, standings: &[Verdi
 fn print_kept(out: &mut Output<'_, impl Print>, line: &Line, number: u64) {
     let standings = line.standings();
     out.print(format_args!("  line {number}"));
-    if standings.contains(&Verdict::Kept) {
+    if standings.contains(&u8::from(Verdict::Kept)) {
         print_places(out, ": kept", &standings, Verdict::Kept);
     } else if show::is_marked(line) {
         out.print(": kept none");

@@ -1,5 +1,6 @@
 // What is shown of a line of the paper: its rows as they stood, and the stretches of places that stand alike.
 ghost use Rattle.std.specs.Prelude.{◌≡◌, ◌≤◌, length};
+ghost use Rattle.judgement.specs.Verdict.{number_of};
 ghost use Rattle.paper.specs.Show.{marked, size_from, inked, spaced, after_place};
 
 use judgement::{Line, Verdict};
@@ -43,12 +44,12 @@ pub fn space(row: &mut [u8])
 }
 
 // The stretch after a place that stands so, of those that stand as `v`. Another kind ends it, and a bare place does not.
-pub fn after_place(s: Option<Stretch>, i: usize, stand: Verdict, v: Verdict) -> Option<Stretch>
-    ensures { result ≡ after_place s i stand v }
+pub fn after_place(s: Option<Stretch>, i: usize, stand: u8, v: Verdict) -> Option<Stretch>
+    ensures { result ≡ after_place s i stand (number_of v) }
 {
-    if stand == v {
+    if stand == u8::from(v) {
         let from = s.map_or(i, |s| s.from);
         return Some(Stretch { from, to: i });
     }
-    if stand == Verdict::Nothing { s } else { None }
+    if stand == 0 { s } else { None }
 }
