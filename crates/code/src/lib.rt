@@ -24,6 +24,7 @@ pub enum Kind {
 }
 
 // What a host byte is on the line: nothing, a code that does not depend on case, or a code with the case it wants.
+// Three outcomes, each with a mark of its own in the paper; an Option within an Option would say them no plainer.
 #[derive(Clone, Copy, PartialEq, Eq)]
 pub enum Conversion {
     Nothing,
@@ -72,7 +73,7 @@ pub fn kind_of(c: u8) -> Kind
     }
 }
 
-// The code that puts a printer into a case.
+// The code that puts a printer into a case. Two cases and two codes: a `match` says that plainest.
 pub fn shift_to(case: Case) -> u8
     ensures { result ≡ shift case }
 {

@@ -3,7 +3,7 @@
 
 ghost use Rattle.std.specs.Prelude.{◌≡◌};
 ghost use Rattle.command.specs.Read.{afresh, at, ends, idle, inside, over, ByteRead, released, sound_stage, swallowed};
-ghost use Rattle.command.specs.Names.{Nothing as Names-as-Nothing};
+ghost use Rattle.command.specs.Names.{Nothing};
 ghost use Rattle.command.specs.Reads.{running};
 
 mod field;
@@ -51,6 +51,7 @@ pub struct Reader {
 
 // What a byte makes: nothing, one text byte, two (the `/` that was held and the byte), or a finished command, with its type and
 // how many fields it has, 12 for too many. The fields stand in the reader as it was before the byte.
+// Four outcomes, by what the caller does with each; no Option or Result of them would be plainer.
 #[derive(Clone, Copy, PartialEq, Eq)]
 pub enum Out {
     Nothing,
@@ -87,7 +88,7 @@ impl Step {
 
     // The same after a byte that made nothing.
     fn to(stage: Stage) -> Step
-        ensures { result ≡ at stage Names-as-Nothing }
+        ensures { result ≡ at stage Nothing }
     {
         Step::at(stage, Out::Nothing)
     }
