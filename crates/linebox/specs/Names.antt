@@ -20,7 +20,6 @@ pub use Rattle.step.specs.declared.Route.TheVariants.{Dropped, ToPrinter, ToHost
 pub use Rattle.linebox.specs.declared.Answer.{Answer}
 pub use Rattle.linebox.specs.declared.Answer.TheVariants.{All, NoRoom, NoCode, Unsound}
 pub use Rattle.linebox.specs.declared.Called.{Called}
-pub use Rattle.step.specs.declared.Took.{Took}
 pub use Rattle.step.specs.declared.Taken.{Taken}
 pub use Rattle.linebox.specs.declared.Ran.{Ran}
 pub use Rattle.sender.specs.declared.Asks.{Asks}

@@ -2,7 +2,7 @@
 use Rattle.std.specs.Prelude.{ℕ, ◌≡◌, Bool, cond, ◌&&◌, List, leb, length, Option}
 use Rattle.std.specs.Bool.{then_some}
 use Rattle.laws.specs.Written.{fronted}
-use Rattle.step.specs.Names.{State, Stream, Host, Line, Tu, Took, Taken}
+use Rattle.step.specs.Names.{State, Stream, Host, Line, Tu, Taken}
 use Rattle.step.specs.Step.{Step}
 
 -- A host call and a TU call lend a line and a host buffer, a line call a host and a TU buffer.
@@ -22,8 +22,8 @@ abbrev pub fits : Stream → Step → ℕ → ℕ → Bool
 fits t x a b = leb (length (first_of t x)) a && leb (length (second_of t x)) b
 
 -- one buffer: all of `new` at its front, or no place touched where it does not fit
-pub record Puts (after : State) (new old now : List ℕ) (r : Option Took) : Type 0 where
-  pub gives : r ≡ then_some (leb (length new) (length old)) (record { state = after; count = length new })
+pub record Puts (new old now : List ℕ) (r : Option ℕ) : Type 0 where
+  pub gives : r ≡ then_some (leb (length new) (length old)) (length new)
   pub places : now ≡ cond (leb (length new) (length old)) (fronted old new) old
 
 -- both buffers: the byte's whole output, or no place touched where it does not fit
@@ -35,10 +35,3 @@ pub record Offers (t : Stream) (x : Step) (old₁ old₂ now₁ now₂ : List �
 -- nothing to put
 abbrev pub nothing : State → Taken
 nothing s = record { state = s; first = 0; second = 0 }
-
--- what went into the first buffer, or the second, is all there is
-abbrev pub in_first : Took → Taken
-in_first r = record { state = r.state; first = r.count; second = 0 }
-
-abbrev pub in_second : Took → Taken
-in_second r = record { state = r.state; first = 0; second = r.count }

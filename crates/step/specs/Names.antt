@@ -19,7 +19,6 @@ pub use Rattle.step.specs.declared.Stream.{Stream}
 pub use Rattle.step.specs.declared.Stream.TheVariants.{Host, Line, Tu}
 pub use Rattle.step.specs.declared.Route.{Route}
 pub use Rattle.step.specs.declared.Route.TheVariants.{Dropped, ToPrinter, ToHost, ToTu}
-pub use Rattle.step.specs.declared.Took.{Took}
 pub use Rattle.step.specs.declared.Taken.{Taken}
 pub use Rattle.sender.specs.declared.Asks.{Asks}
 pub use Rattle.sender.specs.declared.Asks.TheVariants.{Text, Codes}

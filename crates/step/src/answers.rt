@@ -1,21 +1,24 @@
 // Finished commands: what they store, and their answers to the host.
+ghost use Rattle.std.specs.Prelude.{ℕ, List};
 ghost use Rattle.settings.specs.Command.{commanded};
 ghost use Rattle.settings.specs.Laws.{Sound};
 ghost use Rattle.step.specs.Step.{obeys};
-ghost use Rattle.step.specs.Byte.{Puts};
+ghost use Rattle.step.specs.Names.{Host as Names-as-Host};
+ghost use Rattle.step.specs.Byte.{Offers};
 
-use crate::{State, Took};
+use crate::{State, Taken};
 use command::Verb;
 
 // A finished command obeyed, and its answer at the front of the host buffer, if all of it fits.
-pub fn put_answer(s: State, v: Verb, count: u8, fields: [u8; 11], out: &mut [u8]) -> Option<Took>
+pub fn put_answer(s: State, v: Verb, count: u8, fields: [u8; 11], out: &mut [u8]) -> Option<Taken>
     requires { Sound s.settings s.calling s.connection }
-    ensures { Puts (obeys s (commanded s.settings s.calling s.connection v count fields)).state (obeys s (commanded s.settings s.calling s.connection v count fields)).host out.old out.new result }
+    ensures { (line : List ℕ) → Offers Names-as-Host (obeys s (commanded s.settings s.calling s.connection v count fields)) line out.old line out.new result }
 {
     let o = s.setup().run(v, count, fields);
-    let count = message::make(o.numbers.as_slice(), out)?;
-    Some(Took {
+    let second = message::make(o.numbers.as_slice(), out)?;
+    Some(Taken {
         state: s.with_stored(o.stored),
-        count,
+        first: 0,
+        second,
     })
 }

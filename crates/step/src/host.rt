@@ -55,7 +55,7 @@ pub fn put_read(s: State, x: Step, line: &mut [u8], host: &mut [u8]) -> Option<T
         ..s
     };
     if let Out::Finished(v, n) = x.out {
-        return Some(put_answer(t, v, n, s.reader.values, host)?.in_second());
+        return put_answer(t, v, n, s.reader.values, host);
     }
     put_text(t, Said::by(x.out).text(), line, host)
 }

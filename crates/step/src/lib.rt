@@ -61,13 +61,6 @@ pub struct Heard {
     pub ghost one_digit: { port < 10 },
 }
 
-// One byte's output put into one buffer: the state after the byte, and how many places were written.
-#[derive(Clone, Copy)]
-pub struct Took {
-    pub state: State,
-    pub count: usize,
-}
-
 // One byte's output put into both buffers: the state after the byte, and how many places were written.
 #[derive(Clone, Copy)]
 pub struct Taken {

@@ -1,6 +1,5 @@
 // Line codes on their route: to the host or to the TU.
 ghost use Rattle.std.specs.Prelude.{◌≡◌};
-ghost use Rattle.code.specs.Kinds.{kind_of};
 ghost use Rattle.settings.specs.Options.{reports};
 ghost use Rattle.sender.specs.Reading.{read_case};
 ghost use Rattle.step.specs.Names.{Line as Names-as-Line};
@@ -10,7 +9,7 @@ ghost use Rattle.step.specs.Byte.{Puts, Offers};
 
 use crate::puts::put_one;
 use crate::routes::route;
-use crate::{Route, State, Stream, Taken, Took};
+use crate::{Route, State, Stream, Taken};
 use code::Kind;
 use sender::readings::case_after;
 
@@ -24,23 +23,25 @@ fn is_read(reports: bool, k: Kind) -> bool
     }
 }
 
-// A line code read for the host, in the case before it.
-fn put_read(s: State, c: u8, out: &mut [u8]) -> Option<Took>
-    ensures { Puts (with_reading s (read_case s.settings s.reading (kind_of c))) (read_as (reports s.settings) s.reading (kind_of c) c) out.old out.new result }
+// The state after a line code of this kind read for the host.
+fn read_on(s: State, k: Kind) -> State
+    ensures { result ≡ with_reading s (read_case s.settings s.reading k) }
 {
     let o = s.settings;
-    let k = code::kind_of(c);
-    let next = State {
+    State {
         reading: case_after(o.onspace(), o.onreturn(), s.reading, k),
         ..s
-    };
-    if is_read(o.reports(), k) {
-        put_one(next, code::row_at(s.reading, c), out)
+    }
+}
+
+// A line code of this kind read for the host, in the case before it.
+fn put_read(s: State, k: Kind, c: u8, out: &mut [u8]) -> Option<usize>
+    ensures { Puts (read_as (reports s.settings) s.reading k c) out.old out.new result }
+{
+    if is_read(s.settings.reports(), k) {
+        put_one(code::row_at(s.reading, c), out)
     } else {
-        Some(Took {
-            state: next,
-            count: 0,
-        })
+        Some(0)
     }
 }
 
@@ -49,8 +50,19 @@ pub fn put_line(s: State, c: u8, host: &mut [u8], tu: &mut [u8]) -> Option<Taken
     ensures { Offers Names-as-Line (line_step s c) host.old tu.old host.new tu.new result }
 {
     match route(s.connection, Stream::Line) {
-        Route::ToHost => Some(put_read(s, c, host)?.in_first()),
-        Route::ToTu => Some(put_one(s, c, tu)?.in_second()),
+        Route::ToHost => {
+            let k = code::kind_of(c);
+            Some(Taken {
+                first: put_read(s, k, c, host)?,
+                second: 0,
+                state: read_on(s, k),
+            })
+        }
+        Route::ToTu => Some(Taken {
+            state: s,
+            first: 0,
+            second: put_one(c, tu)?,
+        }),
         Route::Dropped | Route::ToPrinter => Some(Taken::nothing(s)),
     }
 }
