@@ -32,6 +32,7 @@ fn calling_of(b: &[u8; 128]) -> Calling
 }
 
 // The state that the bytes read as; whether they spell it is told by `is_spelling`.
+#[tactic(auto, unfolding(crate::specs::Spelling::state_of))]
 pub fn state_of(b: &[u8; 128]) -> State
     ensures { result ≡ state_of b.now }
 {
@@ -60,6 +61,7 @@ pub fn state_of(b: &[u8; 128]) -> State
 }
 
 // Whether the bytes are the spelling of a state.
+#[tactic(auto, using(crate::proofs::Same::as_same))]
 pub fn is_spelling(b: &[u8; 128], s: State) -> bool
     ensures { result ≡ same b.now (spelt s) }
 {

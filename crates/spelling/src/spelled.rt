@@ -264,6 +264,7 @@ impl<const N: usize> Spelled<N> for [u8; N] {
 
     ghost back = { λ xs. all xs N };
 
+    #[tactic(auto, using(crate::specs::Back::all))]
     fn to_bytes(self) -> [u8; N] {
         self
     }
