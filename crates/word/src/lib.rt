@@ -11,7 +11,7 @@ fn beneath(rest: u64, c: u8) -> u64
     requires { rest < 288230376151711744 }
     ensures { (result ≡ c + 32 * rest) × (result < 256 + 32 * rest) }
 {
-    c as u64 + 32 * rest
+    u64::from(c) + 32 * rest
 }
 
 // The word of eight codes.
