@@ -53,7 +53,7 @@ impl Stored {
     }
 
     // What is stored under an id, read out.
-    pub fn read_out(self, r: Row) -> Outcome
+    pub(crate) fn read_out(self, r: Row) -> Outcome
         ensures { result ≡ outcome self (reading self r) }
     {
         Outcome {

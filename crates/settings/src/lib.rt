@@ -87,7 +87,7 @@ pub enum Fault {
 }
 
 // The settings and the connection after a command, whether a connection was written, how a station is called, and whether the motor goes
-// off and forgets what was heard.
+// off and forgets what was heard. It has two flags and no kinds, since `connected_by` and `forgets_by` speak of each by itself.
 #[derive(Clone, Copy)]
 pub struct Stored {
     pub settings: Settings,

@@ -29,7 +29,7 @@ impl Model for Numbers {
 
 impl Numbers {
     // An id, how many values it has, and the values, of which there are at most eight.
-    pub fn of<const N: usize>(id: u8, values: [u8; N]) -> Numbers
+    pub(crate) fn of<const N: usize>(id: u8, values: [u8; N]) -> Numbers
         requires { N ≤ 8 }
         ensures { result ≡ id ∷ N ∷ values.entry }
     {

@@ -1,4 +1,4 @@
-// The settings by name.
+// The settings by name. Each is one line that says where it stands: one getter by place would lose the names.
 ghost use Rattle.std.specs.Prelude.{◌≡◌};
 ghost use Rattle.settings.specs.Options.{endings, limit, onspace, onreturn, filter, reports, stand_in};
 
@@ -53,7 +53,7 @@ impl Settings {
         self.values[5] == 1
     }
 
-    // Option 77: the stand-in for text bytes without a code, 0 where there is none.
+    // Option 77: the stand-in for text bytes without a code, 0 where there is none: so the paper has it, and `stand_in` says so.
     #[tactic(auto, unfolding(crate::specs::Options::stand_in))]
     pub fn stand_in(self) -> u8
         ensures { result ≡ stand_in self }

@@ -39,11 +39,10 @@ impl Settings {
     fn has_sound_values(self) -> bool
         ensures { result ≡ all_in options self.values }
     {
-        let v = self.values;
-        let lines = option_sound(49, v[0]) & option_sound(50, v[1]);
-        let unshifts = option_sound(70, v[2]) & option_sound(71, v[3]);
-        let shifts = option_sound(72, v[4]) & option_sound(74, v[5]);
-        lines & (unshifts & (shifts & option_sound(77, v[6])))
+        [49, 50, 70, 71, 72, 74, 77]
+            .iter()
+            .zip(self.values.iter())
+            .all(|(id, value)| option_sound(*id, *value))
     }
 
     // Whether option 77 is a sound stand-in.
@@ -56,7 +55,7 @@ impl Settings {
 
     // Whether the settings are in the table's ranges.
     #[tactic(auto, using(crate::proofs::Strings::word_string), unfolding(crate::specs::Table::sound_settings))]
-    pub fn is_sound(self) -> bool
+    pub(crate) fn is_sound(self) -> bool
         ensures { result ≡ sound_settings self }
     {
         self.has_sound_values() & (self.has_sound_stand_in() & is_ending(self.string))
@@ -73,7 +72,7 @@ fn all_signals(ns: [u64; 5]) -> bool
 impl Calling {
     // Whether the motor power mode is in its range and the strings obey their rules.
     #[tactic(auto, unfolding(crate::specs::Table::sound_calling))]
-    pub fn is_sound(self) -> bool
+    pub(crate) fn is_sound(self) -> bool
         ensures { result ≡ sound_calling self }
     {
         is_power(self.power) & all_signals(self.strings)
@@ -94,7 +93,7 @@ impl Connection {
 
     // Whether the connection is in the table's ranges.
     #[tactic(auto, unfolding(crate::specs::Table::sound_connection))]
-    pub fn is_sound(self) -> bool
+    pub(crate) fn is_sound(self) -> bool
         ensures { result ≡ sound_connection self }
     {
         self.is_within(row(self.mode).home)

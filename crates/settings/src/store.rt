@@ -141,7 +141,7 @@ impl Setup {
     }
 
     // What a command without error stores.
-    pub fn obey(self, command: Command) -> Stored
+    pub(crate) fn obey(self, command: Command) -> Stored
         ensures { result ≡ obey self.settings self.calling self.connection command.verb command.row (drop 2 command.fields) }
     {
         match command.verb {
@@ -153,7 +153,7 @@ impl Setup {
     // What option 77, whose place is 6, is once a write is stored: the first parameter where that is its place, 0 where all settings go to
     // factory.
     #[tactic(auto, unfolding(crate::specs::Options::stand_in))]
-    pub fn stored_stand_in(self, command: Command) -> u8
+    pub(crate) fn stored_stand_in(self, command: Command) -> u8
         ensures { result ≡ stand_in (store self.settings self.calling self.connection command.row.home command.row.number (drop 2 command.fields)).settings }
     {
         match command.row.home {

@@ -101,14 +101,14 @@ pub fn first_eight(ps: [u8; 9]) -> [u8; 8]
 
 impl Home {
     // Whether an id names the connection.
-    pub fn is_connection(self) -> bool
+    pub(crate) fn is_connection(self) -> bool
         ensures { result ≡ is_connection self }
     {
         matches!(self, Home::Linked(_) | Home::Unlinked)
     }
 
     // How many values an id has.
-    pub fn width(self) -> u8
+    pub(crate) fn width(self) -> u8
         ensures { result ≡ width self }
     {
         match self {
@@ -121,7 +121,7 @@ impl Home {
     }
 
     // Whether the parameters of an id are in its range.
-    pub fn in_range(self, ps: [u8; 9]) -> bool
+    pub(crate) fn in_range(self, ps: [u8; 9]) -> bool
         ensures { result ≡ in_range self ps }
     {
         let first = ps[0];
@@ -138,7 +138,7 @@ impl Home {
 
 impl Row {
     // How many parameters a command of this type has, if it can be given.
-    pub fn taken_by(self, v: Verb) -> Option<u8>
+    pub(crate) fn taken_by(self, v: Verb) -> Option<u8>
         ensures { result ≡ taken_by v self }
     {
         match v {

@@ -1,19 +1,30 @@
--- `settings::Settings::has_sound_values` meets its contract: a list is its elements, and each is tested by the row of its option.
-use mathlib.Core.Path.{◌≡◌}
-use mathlib.Core.Bool.{Bool, true, ◌&&◌, and_assoc, and-true}
+-- `settings::Settings::has_sound_values` meets its contract: each value is tested by the row of its option.
+use Prim.Native.Nat.{ℕ}
+use mathlib.Core.Path.{◌≡◌, ◌∙◌}
+use mathlib.Core.Bool.{Bool}
+use mathlib.Core.List.{List, [], ◌∷◌}
 use borrow.Author.Rules.{rules}
-use lib.ListN.{length, get_or}
-use Rattle.settings.specs.Table.{between, row}
+use borrow.Author.Tests.{tests}
+use lib.ListN.{length, replicate}
+use Rattle.std.specs.List.{list_all, zip}
+use Rattle.std.proofs.lemmas.Iterator.{YieldsList-from_slice, YieldsList-from_zip}
+use Rattle.std.proofs.lemmas.Iterator.Search.{all_from_yields_List}
+use Rattle.settings.specs.Table.{in_range, row, options, all_in}
 use Rattle.settings.proofs.Walk.{spread_all}
 use Rattle.settings.proofs.Settings.has_sound_values.Goals as goal
 
-pairs : (a b c d e f g : Bool) → ((a && b) && ((c && d) && ((e && f) && g))) ≡ (a && (b && (c && (d && (e && (f && (g && true)))))))
-pairs a b c d e f g = rw (and_assoc a b ((c && d) && ((e && f) && g)), and_assoc c d ((e && f) && g), and_assoc e f g, and-true g)
+ids : List ℕ
+ids = 49 ∷ 50 ∷ 70 ∷ 71 ∷ 72 ∷ 74 ∷ 77 ∷ []
+
+test : ℕ × ℕ → Bool
+test p = in_range (row p.0).home (p.1 ∷ replicate 8 0)
+
+each : (v : List ℕ) → length v ≡ 7 → list_all test (zip ids v) ≡ all_in options v
+unfolding row ids test
+each v n = rw (spread_all 7 0 v n)
 
 pub returns : goal.returns
-unfolding row
+unfolding ids test
 returns c =
     let v = c.args.self.values in
-    let n : length v ≡ 7 = search rules in
-    rw (c.option_sound-7.ensures, c.option_sound-6.ensures, c.option_sound-5.ensures, c.option_sound-4.ensures, c.option_sound-3.ensures, c.option_sound-2.ensures, c.option_sound.ensures, spread_all 7 0 v n)
-    (pairs (between 0 1 (get_or v 0 0)) (between 10 80 (get_or v 1 0)) (between 0 1 (get_or v 2 0)) (between 0 1 (get_or v 3 0)) (between 0 1 (get_or v 4 0)) (between 0 1 (get_or v 5 0)) (between 0 126 (get_or v 6 0)))
+    all_from_yields_List test c.all.new.self _ _ c.all.ensures.ran (YieldsList-from_zip (YieldsList-from_slice ids cc) (YieldsList-from_slice v cc)) (λ x b q k. search (rules, tests)) ∙ each v (search rules)
