@@ -16,6 +16,7 @@ use step::State;
 use step::soundness::{fresh, is_sound};
 
 // The state that a call starts from, where its bytes are the spelling of a sound one.
+#[tactic(auto, unfolding(spelling::specs::Spelling::spells))]
 fn open_state(b: &[u8; 128]) -> Option<State>
     ensures { result ≡ then_some (spells_sound b.now) (state_of b.now) }
 {

@@ -1,4 +1,5 @@
 // The calls of the box under the names of include/linebox.h, for a static library: each is the call of that name of `board`.
+// They stand here a second time for the C interface: a crate is a library or a static library, and `onboard` rests on `board` as a library.
 #![tactic(auto)]
 
 ghost use Rattle.std.specs.Prelude.{◌≡◌};

@@ -32,6 +32,7 @@ pub(crate) trait Spelled<const N: usize>: Copy {
 }
 
 // A part's bytes from an offset on.
+#[tactic(auto, using(crate::proofs::Places::written))]
 pub(crate) fn put<T: Spelled<N>, const N: usize>(bytes: &mut [u8; 128], at: usize, x: T)
     requires { at + N ≤ 128 }
     ensures { bytes.new ≡ puts bytes.old at (T.bytes x) }
@@ -40,6 +41,7 @@ pub(crate) fn put<T: Spelled<N>, const N: usize>(bytes: &mut [u8; 128], at: usiz
 }
 
 // The part that the bytes from an offset on read as.
+#[tactic(auto, using(crate::proofs::Places::read))]
 pub(crate) fn get<T: Spelled<N>, const N: usize>(b: &[u8; 128], at: usize) -> T
     requires { at + N ≤ 128 }
     ensures { result ≡ T.of (part b.now at N) }
