@@ -2,7 +2,7 @@
 -- Assumes nothing.
 use Prim.Native.Nat.{ℕ, suc, ◌+◌, ◌*◌, ◌<◌, ◌≤◌}
 use mathlib.Core.Path.{◌≡◌, refl, sym, ap, subst, ◌∙◌}
-use mathlib.Core.Bool.{Bool, true, false, cond, not, beq, true≢false, false≢true}
+use mathlib.Core.Bool.{Bool, true, false, cond, not}
 use mathlib.Core.List.{List, [], ◌∷◌, ◌++◌, append-nil}
 use native.Mathlib.Omega.{arith}
 use native.Mathlib.Nat.{le_of_eq, zero-add}
@@ -88,22 +88,12 @@ item_changes k port m (Free c) cs = refl
 item_changes k port m (Cased case c) cs = refl
 
 -- on or off is one digit
-pub few_digit : (b : Bool) → from_bool b < 10
-few_digit true = omega arith
-few_digit false = omega arith
-
--- and the digits are the same exactly if it is
-pub digits_same : (a b : Bool) → beq a b ≡ true → from_bool a ≡ from_bool b
-digits_same true true h = refl
-digits_same true false h = absurd (false≢true h)
-digits_same false true h = absurd (false≢true h)
-digits_same false false h = refl
-
-pub digits_apart : (a b : Bool) → beq a b ≡ false → eqb (from_bool a) (from_bool b) ≡ false
-digits_apart true true h = absurd (true≢false h)
-digits_apart true false h = refl
-digits_apart false true h = refl
-digits_apart false false h = absurd (true≢false h)
+pub few_powered : (m : Motor) → powered m < 10
+few_powered m = go (is_on m.run)
+  where
+    go : (b : Bool) → from_bool b < 10
+    go true = omega arith
+    go false = omega arith
 
 pub few_port : (s : State) → listens s.calling s.connection ≡ true → s.connection.port < 10
 unfolding listens
@@ -182,7 +172,7 @@ changes_few k port m [] p = omega arith
 changes_few k port m (c ∷ cs) p =
     let one = change port (powered m) (powered (hearing k m c)) in
     let rest = changes k port (hearing k m c) cs in
-    omega (arith, length-append one rest, change_short port (powered m) (powered (hearing k m c)) p (few_digit (is_on (hearing k m c).run)), changes_few k port (hearing k m c) cs p)
+    omega (arith, length-append one rest, change_short port (powered m) (powered (hearing k m c)) p (few_powered (hearing k m c)), changes_few k port (hearing k m c) cs p)
 
 codes_length : (ws : List Wanted) → length (codes_asked ws) ≡ length ws
 codes_length [] = refl

@@ -44,9 +44,9 @@ told_of s ws = cond (listens s.calling s.connection) (changes s.calling s.connec
 
 -- what the host is told of two items, by whether the motor was on before them, between them and after them
 abbrev pub tells : Heard → List ℕ
-tells h = change h.port (from_bool h.was) (from_bool h.between) ++ change h.port (from_bool h.between) (from_bool h.after)
+tells h = change h.port h.was h.between ++ change h.port h.between h.after
 
--- one byte's items heard
+-- one byte's items heard; that the numbers of what is told have one digit each is in the type
 pub record Hears (s : State) (ws : List Wanted) (h : Heard) : Type 0 where
   pub motor : h.motor ≡ motor_after s ws
   pub tells : tells h ≡ told_of s ws

@@ -1,6 +1,5 @@
 // What the motor hears of a byte's items, and what the host is told of it.
 ghost use Rattle.std.specs.Prelude.{◌≡◌, ℕ, ◌≤◌, ◌<◌, ◌++◌, length};
-ghost use Rattle.std.specs.Int.{from_bool};
 ghost use Rattle.laws.specs.Written.{Filled};
 ghost use Rattle.sender.specs.Item.{wanted_of};
 ghost use Rattle.motor.specs.Motor.{hearing_all};
@@ -55,9 +54,9 @@ pub fn hear(s: State, asks: Asks, bytes: &[u8]) -> Heard
         return Heard {
             motor: s.motor,
             port: 0,
-            was: false,
-            between: false,
-            after: false,
+            was: 0,
+            between: 0,
+            after: 0,
         };
     }
     let (first, second) = speak(s.settings, asks, bytes);
@@ -66,30 +65,31 @@ pub fn hear(s: State, asks: Asks, bytes: &[u8]) -> Heard
     Heard {
         motor: last,
         port: s.connection.port,
-        was: is_on(s.motor.run),
-        between: is_on(then.run),
-        after: is_on(last.run),
+        was: u8::from(is_on(s.motor.run)),
+        between: u8::from(is_on(then.run)),
+        after: u8::from(is_on(last.run)),
     }
 }
 
 // How many bytes the host is told of a change.
-fn change_size(before: bool, after: bool) -> usize
-    ensures { (port : ℕ) → port < 10 → result ≡ length (change port (from_bool before) (from_bool after)) }
+fn change_size(before: u8, after: u8) -> usize
+    requires { after < 10 }
+    ensures { (port : ℕ) → port < 10 → result ≡ length (change port before after) }
 {
     if before == after { 0 } else { 17 }
 }
 
 // A change told at the front of the host buffer: the message with its two digits, `-.TC,20,2,port,after` framed. It is laid out here, for
 // what is asked for in two places is not compiled into either, and an answer is to be made where the command was read.
-fn put_change(port: u8, before: bool, after: bool, out: &mut [u8]) -> usize
-    requires { (port < 10) × (length (change port (from_bool before) (from_bool after)) ≤ length out.old) }
-    ensures { Filled out.old out.new (change port (from_bool before) (from_bool after)) result }
+fn put_change(port: u8, before: u8, after: u8, out: &mut [u8]) -> usize
+    requires { (port < 10) × (after < 10) × (length (change port before after) ≤ length out.old) }
+    ensures { Filled out.old out.new (change port before after) result }
 {
     if before == after {
         return 0;
     }
     let p = b'0' + port;
-    let a = b'0' + u8::from(after);
+    let a = b'0' + after;
     let text = [
         13, 10, b'-', b'.', b'T', b'C', b',', b'2', b'0', b',', b'2', b',', p, b',', a, 13, 10,
     ];

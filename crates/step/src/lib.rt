@@ -50,15 +50,16 @@ pub struct State {
     pub motor: Motor,
 }
 
-// The motor after one byte's items, its port, which has one digit, and whether it was on before them, between them and after them.
+// The motor after one byte's items, its port, and whether it was on (1) or off (0) before them, between them and after them.
+// Numbers and no bools: `size` and `put` promise what is told (`tells`) of any digits here, and a bool would ask more of their callers.
 #[derive(Clone, Copy)]
 pub struct Heard {
     pub motor: Motor,
     pub port: u8,
-    pub was: bool,
-    pub between: bool,
-    pub after: bool,
-    pub ghost one_digit: { port < 10 },
+    pub was: u8,
+    pub between: u8,
+    pub after: u8,
+    pub ghost one_digit: { (port < 10) × (between < 10) × (after < 10) },
 }
 
 // One byte's output put into both buffers: the state after the byte, and how many places were written.

@@ -1,16 +1,16 @@
 -- `step::hears::change_size` meets its contract: a message of numbers that have one digit each, or none.
 use mathlib.Core.Path.{sym, ap}
+use borrow.Author.Tests.{ne_eqb}
 use lib.ListN.{length}
-use Rattle.std.specs.Int.{from_bool}
-use Rattle.step.proofs.Hearing.{change_long, change_none, few_digit, digits_apart, digits_same}
+use Rattle.step.proofs.Hearing.{change_long, change_none}
 use Rattle.step.proofs.hears.change_size.Goals as goal
 
 pub returns-then-before-after : goal.returns-then-before-after
 returns-then-before-after c port few =
     let a = c.args in
-    sym (ap length (change_none port (from_bool a.before) (from_bool a.after) (digits_same a.before a.after c.if-before-after.true)))
+    sym (ap length (change_none port a.before a.after c.if-before-after.true))
 
 pub returns-else-before-after : goal.returns-else-before-after
 returns-else-before-after c port few =
     let a = c.args in
-    sym (change_long port (from_bool a.before) (from_bool a.after) few (few_digit a.after) (digits_apart a.before a.after c.if-before-after.false))
+    sym (change_long port a.before a.after few c.requires (ne_eqb a.before a.after c.if-before-after.false))
