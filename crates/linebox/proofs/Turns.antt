@@ -175,11 +175,6 @@ module _ (t : Stream) (start : State) (input old₁ old₂ : List ℕ) where
           rest = r.rest ∙ rw (z, u, v, ← w) (moved t next (length input - length left) r.p r.q _);
         })
 
--- the first of some bytes, and the others
-pub uncons : (xs : List ℕ) → 0 < length xs → xs ≡ get_or xs 0 0 ∷ drop 1 xs
-uncons [] h = absurd (omega (arith, h))
-uncons (x ∷ xs) h = refl
-
 -- a run of bytes that the command reader keeps more
 pub kept_on : (start : State) (input old₁ old₂ : List ℕ) (s : State) (left now₁ now₂ : List ℕ) (k₁ k₂ : ℕ) → Reached Host start input old₁ old₂ s left now₁ now₂ k₁ k₂
     → (u : Running) → u ≡ running s.reader left

@@ -1,11 +1,11 @@
 -- `take` of `linebox::calls::TuCodes` meets its contract. The invariant: the codes taken and what they wrote stand before what the rest gives;
 -- the state stays sound.
-use Rattle.std.proofs.Common.{◌+◌, ◌-◌, length, take, drop, sym, ◌∙◌, arith}
+use Rattle.std.proofs.Common.{◌+◌, ◌-◌, length, take, drop, sym, ◌∙◌, arith, drop-cons}
 use borrow.Author.Tests.{lt-ltb, le-ltb, eqb-true}
 use borrow.Rule.Slice.PartMut.{put_mid}
 use Rattle.laws.proofs.Tail.{to_end}
 use Rattle.linebox.specs.Names.{Tu}
-use Rattle.linebox.proofs.Turns.{Reached, reached, ran, all_taken, no_code, stays, turn, uncons}
+use Rattle.linebox.proofs.Turns.{Reached, reached, ran, all_taken, no_code, stays, turn}
 use Rattle.linebox.proofs.calls.TuCodesInput.take.Goals as goal
 use Rattle.linebox.proofs.calls.TuCodesInput.take.Goals.{After-take_codes-run}
 
@@ -39,7 +39,7 @@ returns-then-code-gt31 c =
     let a = c.args in
     let x = c.take_codes-run.result in
     rw c.ended-then-code-gt31.ensures
-    (no_code Tu a.start a.codes.now a.line.now a.host.now x.state _ _ _ (uncons _ (omega (arith, c.in-len1-up.len_at_least))) _ l.host (l.one + x.count) l.two (run_of (goal.at.returns-then-code-gt31 c).After-take_codes-run) (lt-ltb _ _ c.if-code-gt31.true))
+    (no_code Tu a.start a.codes.now a.line.now a.host.now x.state _ _ _ (drop-cons _ 0 0 (omega (arith, c.in-len1-up.len_at_least))) _ l.host (l.one + x.count) l.two (run_of (goal.at.returns-then-code-gt31 c).After-take_codes-run) (lt-ltb _ _ c.if-code-gt31.true))
 
 pub returns-in_default-put_tu : goal.returns-in_default-put_tu
 returns-in_default-put_tu c =
@@ -47,7 +47,7 @@ returns-in_default-put_tu c =
     let a = c.args in
     let x = c.take_codes-run.result in
     rw c.ended-in_default-put_tu.ensures
-    (stays Tu a.start a.codes.now a.line.now a.host.now x.state _ _ _ (uncons _ (omega (arith, c.in-len1-up.len_at_least))) _ l.host (l.one + x.count) l.two (run_of (goal.at.returns-in_default-put_tu c).After-take_codes-run) _ _ (le-ltb _ _ c.if-code-gt31.false) c.in_default-put_tu.ensures)
+    (stays Tu a.start a.codes.now a.line.now a.host.now x.state _ _ _ (drop-cons _ 0 0 (omega (arith, c.in-len1-up.len_at_least))) _ l.host (l.one + x.count) l.two (run_of (goal.at.returns-in_default-put_tu c).After-take_codes-run) _ _ (le-ltb _ _ c.if-code-gt31.false) c.in_default-put_tu.ensures)
 
 pub loop-rest-preserved : goal.loop-rest-preserved
 loop-rest-preserved c =
@@ -55,7 +55,7 @@ loop-rest-preserved c =
     let a = c.args in
     let x = c.take_codes-run.result in
     rw (to_end (take (length l.rest.now - x.taken) (drop x.taken l.rest.now)) 1)
-    (turn Tu a.start a.codes.now a.line.now a.host.now x.state _ _ _ (uncons _ (omega (arith, c.in-len1-up.len_at_least))) _ l.host (l.one + x.count) l.two (run_of (goal.at.loop-rest-preserved c).After-take_codes-run) _ _ c.in-Some.x (le-ltb _ _ c.if-code-gt31.false) c.in-Some.ensures)
+    (turn Tu a.start a.codes.now a.line.now a.host.now x.state _ _ _ (drop-cons _ 0 0 (omega (arith, c.in-len1-up.len_at_least))) _ l.host (l.one + x.count) l.two (run_of (goal.at.loop-rest-preserved c).After-take_codes-run) _ _ c.in-Some.x (le-ltb _ _ c.if-code-gt31.false) c.in-Some.ensures)
 
 pub returns : goal.returns
 returns c =
