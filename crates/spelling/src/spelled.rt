@@ -13,16 +13,18 @@ use settings::Connection;
 
 // A part that is spelt as N bytes.
 pub(crate) trait Spelled<const N: usize>: Copy {
-    // Its bytes, what bytes read as, and what the type says of a value: nothing more, but where an impl says so.
+    // Its bytes, what bytes read as, and what a value is known to be: no more than its type says, but where an impl says so.
     ghost bytes: { Self → List ℕ };
 
     ghost of: { List ℕ → Self };
 
     ghost formed: { Self → Type 0 } = { λ _. Unit {0} };
 
+    // The part's bytes.
     fn to_bytes(self) -> [u8; N]
         ensures { result ≡ bytes self };
 
+    // What so many bytes read as.
     fn from_bytes(b: &[u8]) -> Self
         requires { length b.now ≡ N }
         ensures { result ≡ of b.now };
