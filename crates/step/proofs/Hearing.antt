@@ -134,9 +134,6 @@ pub change_long : (port before after : ℕ) → port < 10 → after < 10 → eqb
 unfolding digits
 change_long port before after p q e = rw (e, lt-ltb port 10 p, lt-ltb after 10 q)
 
-pub change_none : (port before after : ℕ) → before ≡ after → change port before after ≡ []
-change_none port before after e = rw (eq-eqb before after e)
-
 pub change_short : (port before after : ℕ) → port < 10 → after < 10 → length (change port before after) ≤ 17
 change_short port before after p q = go (eqb before after) refl
   where
@@ -179,12 +176,9 @@ codes_length [] = refl
 codes_length (w ∷ ws) = ap suc (codes_length ws)
 
 pub told_few : (s : State) (ws : List Wanted) → length (told_of s ws) ≤ 17 * length ws
-unfolding told_of listens
+unfolding told_of
 told_few s ws = go (listens s.calling s.connection) refl
   where
     go : (b : Bool) → listens s.calling s.connection ≡ b → length (cond b (changes s.calling s.connection.port s.motor (codes_asked ws)) []) ≤ 17 * length ws
-    go true e =
-        let port = s.connection.port in
-        let p : port < 10 = omega (arith, ltb-true port 4 (and_parts (not (eqb s.calling.power 0)) (ltb port 4) e).1) in
-        omega (arith, changes_few s.calling port s.motor (codes_asked ws) p, codes_length ws)
+    go true e = omega (arith, changes_few s.calling s.connection.port s.motor (codes_asked ws) (few_port s e), codes_length ws)
     go false e = omega arith

@@ -72,6 +72,7 @@ pub fn hear(s: State, asks: Asks, bytes: &[u8]) -> Heard
 }
 
 // How many bytes the host is told of a change.
+#[tactic(auto, using(crate::proofs::Hearing::change_long))]
 fn change_size(before: u8, after: u8) -> usize
     requires { after < 10 }
     ensures { (port : ℕ) → port < 10 → result ≡ length (change port before after) }
@@ -81,6 +82,7 @@ fn change_size(before: u8, after: u8) -> usize
 
 // A change told at the front of the host buffer: the message with its two digits, `-.TC,20,2,port,after` framed. It is laid out here, for
 // what is asked for in two places is not compiled into either, and an answer is to be made where the command was read.
+#[tactic(auto, using(crate::proofs::Hearing::change_long))]
 fn put_change(port: u8, before: u8, after: u8, out: &mut [u8]) -> usize
     requires { (port < 10) × (after < 10) × (length (change port before after) ≤ length out.old) }
     ensures { Filled out.old out.new (change port before after) result }
@@ -98,6 +100,7 @@ fn put_change(port: u8, before: u8, after: u8, out: &mut [u8]) -> usize
 
 impl Heard {
     // How many bytes the host is told.
+    #[tactic(auto, using(crate::proofs::Hearing::change_short))]
     pub fn size(self) -> usize
         ensures { result ≡ length (tells self) }
     {
