@@ -11,7 +11,7 @@ use borrow.Author.Tests.{leb-true}
 use lib.Dec.{leb}
 use lib.ListN.{length, get_or, drop, length-drop}
 use lib.Seq.{get_or-drop}
-use Rattle.std.specs.Prelude.{Some, None}
+use Rattle.std.specs.Prelude.{cond, Result, Ok, Err}
 use Rattle.std.specs.Bool.{then_some}
 use Rattle.laws.specs.Written.{fronted, Filled}
 use Rattle.linebox.specs.Names.{State, Stream, Host, Answer, All, NoRoom, NoCode, Taken, Ran}
@@ -19,6 +19,7 @@ use Rattle.step.specs.State.{sound, with_reader}
 use Rattle.step.specs.Step.{Step, hosted, step}
 use Rattle.linebox.specs.Call.{first_of, second_of, refuses, fits, Done, stopped, onward, before, taking, number_of}
 use Rattle.step.specs.Byte.{Offers}
+use Rattle.step.specs.declared.NoRoom.{NoRoom as Refused}
 use Rattle.linebox.specs.Call.{Runs, Calls}
 use Rattle.command.specs.declared.Running.{Running}
 use Rattle.command.specs.Reads.{running}
@@ -61,10 +62,13 @@ module _ (t : Stream) (x : Step) (old₁ old₂ now₁ now₂ : List ℕ) where
   abbrev whole : Taken
   whole = record { state = x.state; first = length (first_of t x); second = length (second_of t x) }
 
-  refused : Offers t x old₁ old₂ now₁ now₂ None → (fits t x (length old₁) (length old₂) ≡ false) × ((now₁ ≡ old₁) × (now₂ ≡ old₂))
-  refused o = go (fits t x (length old₁) (length old₂)) refl o.gives
+  abbrev answer : Bool → Result Taken Refused
+  answer b = cond b (Ok whole) (Err (record { state = x.state }))
+
+  refused : (r : Refused) → Offers t x old₁ old₂ now₁ now₂ (Err r) → (fits t x (length old₁) (length old₂) ≡ false) × ((now₁ ≡ old₁) × (now₂ ≡ old₂))
+  refused r o = go (fits t x (length old₁) (length old₂)) refl o.gives
     where
-      go : (b : Bool) → fits t x (length old₁) (length old₂) ≡ b → None ≡ then_some b whole
+      go : (b : Bool) → fits t x (length old₁) (length old₂) ≡ b → Err r ≡ answer b
           → (fits t x (length old₁) (length old₂) ≡ false) × ((now₁ ≡ old₁) × (now₂ ≡ old₂))
       go true e h = cc
       go false e h = (e, (rw e at o.one, rw e at o.two))
@@ -75,10 +79,10 @@ module _ (t : Stream) (x : Step) (old₁ old₂ now₁ now₂ : List ℕ) where
     one : now₁ ≡ fronted old₁ (first_of t x)
     two : now₂ ≡ fronted old₂ (second_of t x)
 
-  accepted : (r : Taken) → Offers t x old₁ old₂ now₁ now₂ (Some r) → Accepts r
+  accepted : (r : Taken) → Offers t x old₁ old₂ now₁ now₂ (Ok r) → Accepts r
   accepted r o = go (fits t x (length old₁) (length old₂)) refl o.gives
     where
-      go : (b : Bool) → fits t x (length old₁) (length old₂) ≡ b → Some r ≡ then_some b whole → Accepts r
+      go : (b : Bool) → fits t x (length old₁) (length old₂) ≡ b → Ok r ≡ answer b → Accepts r
       go true e h = record { fit = e; gives = cc; one = rw e at o.one; two = rw e at o.two }
       go false e h = cc
 
@@ -144,14 +148,14 @@ module _ (t : Stream) (start : State) (input old₁ old₂ : List ℕ) where
     rooms ok f = rw (free_length now₁ k₁, free_length now₂ k₂, r.one.same_length, r.two.same_length) at f
 
     -- no byte more
-    pub stays : (ys₁ ys₂ : List ℕ) → refuses t s b ≡ false → Offers t next (mid_of k₁ (length now₁ - k₁) now₁) (mid_of k₂ (length now₂ - k₂) now₂) ys₁ ys₂ None
+    pub stays : (ys₁ ys₂ : List ℕ) (x : Refused) → refuses t s b ≡ false → Offers t next (mid_of k₁ (length now₁ - k₁) now₁) (mid_of k₂ (length now₂ - k₂) now₂) ys₁ ys₂ (Err x)
         → Calls (taking t start input (length old₁) (length old₂)) old₁ old₂ (put_mid k₁ (length now₁ - k₁) now₁ ys₁) (put_mid k₂ (length now₂ - k₂) now₂ ys₂) (record { answer = NoRoom; taken = length input - length left; first = k₁; second = k₂; state = s })
-    stays ys₁ ys₂ h o =
-        let f = refused t next _ _ ys₁ ys₂ o in
+    stays ys₁ ys₂ x h o =
+        let f = refused t next _ _ ys₁ ys₂ x o in
         rw (unfilled now₁ ys₁ k₁ f.1.0, unfilled now₂ ys₂ k₂ f.1.1) (stops s left now₁ now₂ k₁ k₂ NoRoom r (rw (e, h, rooms false f.0)))
 
     -- one byte more
-    pub turn : (ys₁ ys₂ : List ℕ) (x : Taken) → refuses t s b ≡ false → Offers t next (mid_of k₁ (length now₁ - k₁) now₁) (mid_of k₂ (length now₂ - k₂) now₂) ys₁ ys₂ (Some x)
+    pub turn : (ys₁ ys₂ : List ℕ) (x : Taken) → refuses t s b ≡ false → Offers t next (mid_of k₁ (length now₁ - k₁) now₁) (mid_of k₂ (length now₂ - k₂) now₂) ys₁ ys₂ (Ok x)
         → Reached t start input old₁ old₂ x.state more (put_mid k₁ (length now₁ - k₁) now₁ ys₁) (put_mid k₂ (length now₂ - k₂) now₂ ys₂) (k₁ + x.first) (k₂ + x.second)
     turn ys₁ ys₂ x h o =
         let f = first_of t next in

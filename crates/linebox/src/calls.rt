@@ -12,7 +12,8 @@ use step::line::put_line;
 use step::sends::put_tu;
 use step::soundness::is_sound;
 
-// How the bytes of a stream are taken: from a sound state, as many as have room in the two lent buffers.
+// How the bytes of a stream are taken: from a sound state, as many as have room in the two lent buffers. `sound` stays a clause and
+// the buffers stay apart: a struct would have to be made anew of each turn's state, and `Calls` and `Runs` name each buffer.
 pub trait Input {
     ghost stream: { Stream };
 
@@ -60,7 +61,7 @@ impl Input for HostBytes {
             let [_, tail @ ..] = rest else {
                 return ended(Answer::All, input.len(), one, two, state);
             };
-            let Some(x) = put_read(state, kept.next, &mut line[one..], &mut host[two..]) else {
+            let Ok(x) = put_read(state, kept.next, &mut line[one..], &mut host[two..]) else {
                 return ended(Answer::NoRoom, input.len() - rest.len(), one, two, state);
             };
             state = x.state;
@@ -87,7 +88,7 @@ impl Input for LineCodes {
             if 31 < c {
                 return ended(Answer::NoCode, taken, one, two, state);
             }
-            let Some(x) = put_line(state, c, &mut host[one..], &mut tu[two..]) else {
+            let Ok(x) = put_line(state, c, &mut host[one..], &mut tu[two..]) else {
                 return ended(Answer::NoRoom, taken, one, two, state);
             };
             state = x.state;
@@ -121,7 +122,7 @@ impl Input for TuCodes {
             if 31 < *code {
                 return ended(Answer::NoCode, codes.len() - rest.len(), one, two, state);
             }
-            let Some(x) = put_tu(state, *code, &mut line[one..], &mut host[two..]) else {
+            let Ok(x) = put_tu(state, *code, &mut line[one..], &mut host[two..]) else {
                 return ended(Answer::NoRoom, codes.len() - rest.len(), one, two, state);
             };
             state = x.state;
@@ -157,7 +158,8 @@ fn call<T: Input>(
     }
 }
 
-// A host call lends a line and a host buffer. The input is the part from the count taken so far.
+// A host call lends a line and a host buffer. The input is the part from the count taken so far. Three names for the one call, since README
+// and docs/PROMISES.md give them.
 pub fn host(s: State, input: &[u8], from: usize, line: &mut [u8], host: &mut [u8]) -> Called
     ensures { Calls (call Names-as-Host s (drop from input.now) (length line.old) (length host.old)) line.old host.old line.new host.new result }
 {

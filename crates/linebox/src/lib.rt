@@ -10,8 +10,8 @@ mod runs;
 use step::State;
 
 // How a call ends: all bytes taken, no room for the next byte's output, a next byte that is no code, or a state that is not
-// sound.
-#[derive(Clone, Copy)]
+// sound. No Result: each of the four comes with its counts and its state (`Called`), and the paper numbers all four (`number_of`).
+#[derive(Clone, Copy, PartialEq, Eq)]
 pub enum Answer {
     All,
     NoRoom,

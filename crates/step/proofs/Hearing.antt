@@ -21,11 +21,11 @@ use Rattle.sender.specs.Item.{wanted_of, wanted_by, wanted_text}
 use Rattle.command.specs.Read.{text_of}
 use Rattle.command.specs.declared.Verb.{Verb}
 use Rattle.command.specs.declared.Out.TheVariants as out
-use Rattle.step.specs.Names.{Calling, Settings, Route, Dropped, ToPrinter, ToHost, ToTu, Out, One, Two, Finished, Wanted, Motor, State, Host, Text}
+use Rattle.step.specs.Names.{Calling, Settings, Route, Dropped, ToPrinter, ToHost, ToTu, Out, One, Two, Finished, Wanted, Motor, State, Host, Text, Heard}
 use Rattle.step.specs.Route.{route}
 use Rattle.code.specs.declared.Conversion.{Conversion}
 use Rattle.code.specs.declared.Conversion.TheVariants.{Nothing, Free, Cased}
-use Rattle.step.specs.Hear.{listens, codes_asked, powered, change, changes, motor_after, told_of, asked_by}
+use Rattle.step.specs.Hear.{listens, codes_asked, powered, change, changes, motor_after, told_of, asked_by, Hears}
 use Rattle.step.specs.Step.{sends, quiet, text, hosted}
 
 -- Nothing asked for is nothing heard.
@@ -120,6 +120,13 @@ module _ (s : State) (x y : Conversion) (e : listens s.calling s.connection ≡ 
       let ys = codes_asked (wanted_of y) in
       let f : changes k port then ys ≡ change port (powered then) (powered last) = ap (λ (cs : List ℕ). changes k port then cs) (sym (append-nil ys)) ∙ item_changes k port then y [] ∙ append-nil _ in
       rw (e, codes_append (wanted_of x) (wanted_of y)) (sym (item_changes k port s.motor x ys ∙ ap (λ (cs : List ℕ). change port (powered s.motor) (powered then) ++ cs) f))
+
+  -- two items heard, where there are any; the three numbers of what is told have one digit each
+  abbrev pub heard_both : Heard
+  heard_both = record { motor = last; port = s.connection.port; was = powered s.motor; between = powered then; after = powered last; one_digit = (few_port s e, few_powered then, few_powered last) }
+
+  pub heard_both_law : Hears s (wanted_of x ++ wanted_of y) heard_both
+  heard_both_law = record { motor = both_motor; tells = both_told }
 
 -- Text asks as text.
 

@@ -10,7 +10,7 @@ use borrow.Author.Tests.{le-leb, lt-leb}
 use lib.Dec.{leb}
 use lib.ListN.{length, take, drop}
 use lib.Seq.{take-append_seam}
-use Rattle.std.specs.Prelude.{Option, None, Some}
+use Rattle.std.specs.Prelude.{Result, Ok, Err}
 use Rattle.laws.specs.Written.{fronted, Filled}
 use Rattle.message.specs.Made.{Put}
 use Rattle.sender.specs.declared.Sent.{Sent}
@@ -18,7 +18,7 @@ use Rattle.sender.specs.Item.{items, after_items, wanted_by, converted}
 use Rattle.sender.specs.Run.{asks_next, Run, most, run_of, SendsRun}
 use Rattle.sender.proofs.Append.{items_append, after_append}
 use Rattle.sender.proofs.Few.{byte_most}
-use Rattle.step.specs.Names.{Settings, Sender, Asks, Never, State, Host, Tu, Heard, Taken}
+use Rattle.step.specs.Names.{Settings, Sender, Asks, Never, State, Host, Tu, Heard, NoRoom, Taken}
 use Rattle.step.specs.State.{with_sender, with_motor}
 use Rattle.step.specs.Hear.{asked_by, tells, Hears}
 use Rattle.step.specs.Step.{Step, sends}
@@ -30,18 +30,18 @@ putting s line host = record { state = s; line = line; host = host; tu = [] }
 
 module _ (s : State) (line host old₁ old₂ : List ℕ) where
   -- what does not fit the line buffer
-  pub line_full : length old₁ < length line → Offers Host (putting s line host) old₁ old₂ old₁ old₂ None
+  pub line_full : length old₁ < length line → Offers Host (putting s line host) old₁ old₂ old₁ old₂ (Err (record { state = s }))
   line_full h = let e = lt-leb (length line) (length old₁) h in record { gives = rw e; one = rw e; two = rw e }
 
   -- or the host buffer
-  pub host_full : length old₂ < length host → Offers Host (putting s line host) old₁ old₂ old₁ old₂ None
+  pub host_full : length old₂ < length host → Offers Host (putting s line host) old₁ old₂ old₁ old₂ (Err (record { state = s }))
   host_full h =
       let e : leb (length line) (length old₁) && leb (length host) (length old₂) ≡ false = rw (lt-leb (length host) (length old₂) h) (and-false (leb (length line) (length old₁))) in
       record { gives = rw e; one = rw e; two = rw e }
 
   -- what fits both
   pub both_fit : (now₁ now₂ : List ℕ) (end told : ℕ) → length line ≤ length old₁ → Put old₁ 0 line now₁ end → Filled old₂ now₂ host told
-      → Offers Host (putting s line host) old₁ old₂ now₁ now₂ (Some (record { state = s; first = end; second = told }))
+      → Offers Host (putting s line host) old₁ old₂ now₁ now₂ (Ok (record { state = s; first = end; second = told }))
   both_fit now₁ now₂ end told h p f =
       let e : leb (length line) (length old₁) && leb (length host) (length old₂) ≡ true = rw (le-leb (length line) (length old₁) h, le-leb (length host) (length old₂) (omega (arith, f.count, f.room))) in
       let a : end ≡ length line = rw zero-add at p.place in
@@ -49,7 +49,7 @@ module _ (s : State) (line host old₁ old₂ : List ℕ) where
       record { gives = rw (e, a, f.count); one = rw e b; two = rw e f.places }
 
 -- the buffers of a TU call are those of a host call
-pub as_tu : (x : Step) (old₁ old₂ now₁ now₂ : List ℕ) (r : Option Taken) → Offers Host x old₁ old₂ now₁ now₂ r → Offers Tu x old₁ old₂ now₁ now₂ r
+pub as_tu : (x : Step) (old₁ old₂ now₁ now₂ : List ℕ) (r : Result Taken NoRoom) → Offers Host x old₁ old₂ now₁ now₂ r → Offers Tu x old₁ old₂ now₁ now₂ r
 as_tu x old₁ old₂ now₁ now₂ r p = record { gives = p.gives; one = p.one; two = p.two }
 
 -- where each byte's most has room, all that bytes ask for goes out
@@ -70,7 +70,7 @@ made : (d : Run) (old now : List ℕ) (x : Sent) → SendsRun d old now x → ta
 made d old now x f = rw (f.places.places, f.places.count) (take-append_seam d.codes (drop (length d.codes) old))
 
 -- bytes as they are asked for, two at most
-pub asked_put : (s : State) (asks : Asks) (bs room codes : List ℕ) (x : Sent) (h : Heard) (old₁ old₂ now₁ now₂ : List ℕ) (r : Option Taken)
+pub asked_put : (s : State) (asks : Asks) (bs room codes : List ℕ) (x : Sent) (h : Heard) (old₁ old₂ now₁ now₂ : List ℕ) (r : Result Taken NoRoom)
     → length room ≡ 36 → length bs ≤ 2
     → SendsRun (run_of s.settings s.sender asks Never bs (length room)) room codes x
     → Hears s (asked_by s.settings asks bs) h

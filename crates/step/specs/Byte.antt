@@ -1,8 +1,8 @@
 -- What putting one byte's output into the free parts of the lent buffers gives.
-use Rattle.std.specs.Prelude.{ℕ, ◌≡◌, Bool, cond, ◌&&◌, List, leb, length, Option}
+use Rattle.std.specs.Prelude.{ℕ, ◌≡◌, Bool, cond, ◌&&◌, List, leb, length, Option, Result, Ok, Err}
 use Rattle.std.specs.Bool.{then_some}
 use Rattle.laws.specs.Written.{fronted}
-use Rattle.step.specs.Names.{State, Stream, Host, Line, Tu, Taken}
+use Rattle.step.specs.Names.{State, Stream, Host, Line, Tu, NoRoom, Taken}
 use Rattle.step.specs.Step.{Step}
 
 -- A host call and a TU call lend a line and a host buffer, a line call a host and a TU buffer.
@@ -27,8 +27,8 @@ pub record Puts (new old now : List ℕ) (r : Option ℕ) : Type 0 where
   pub places : now ≡ cond (leb (length new) (length old)) (fronted old new) old
 
 -- both buffers: the byte's whole output, or no place touched where it does not fit
-pub record Offers (t : Stream) (x : Step) (old₁ old₂ now₁ now₂ : List ℕ) (r : Option Taken) : Type 0 where
-  pub gives : r ≡ then_some (fits t x (length old₁) (length old₂)) (record { state = x.state; first = length (first_of t x); second = length (second_of t x) })
+pub record Offers (t : Stream) (x : Step) (old₁ old₂ now₁ now₂ : List ℕ) (r : Result Taken NoRoom) : Type 0 where
+  pub gives : r ≡ cond (fits t x (length old₁) (length old₂)) (Ok (record { state = x.state; first = length (first_of t x); second = length (second_of t x) })) (Err (record { state = x.state }))
   pub one : now₁ ≡ cond (fits t x (length old₁) (length old₂)) (fronted old₁ (first_of t x)) old₁
   pub two : now₂ ≡ cond (fits t x (length old₁) (length old₂)) (fronted old₂ (second_of t x)) old₂
 

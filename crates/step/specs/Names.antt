@@ -19,6 +19,7 @@ pub use Rattle.step.specs.declared.Stream.{Stream}
 pub use Rattle.step.specs.declared.Stream.TheVariants.{Host, Line, Tu}
 pub use Rattle.step.specs.declared.Route.{Route}
 pub use Rattle.step.specs.declared.Route.TheVariants.{Dropped, ToPrinter, ToHost, ToTu}
+pub use Rattle.step.specs.declared.NoRoom.{NoRoom}
 pub use Rattle.step.specs.declared.Taken.{Taken}
 pub use Rattle.sender.specs.declared.Asks.{Asks}
 pub use Rattle.sender.specs.declared.Asks.TheVariants.{Text, Codes}

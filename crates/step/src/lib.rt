@@ -62,6 +62,12 @@ pub struct Heard {
     pub ghost one_digit: { (port < 10) × (between < 10) × (after < 10) },
 }
 
+// The output of the byte does not all fit. With it, the state that the byte leads to.
+#[derive(Clone, Copy)]
+pub struct NoRoom {
+    pub state: State,
+}
+
 // One byte's output put into both buffers: the state after the byte, and how many places were written.
 #[derive(Clone, Copy)]
 pub struct Taken {

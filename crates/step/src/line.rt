@@ -9,7 +9,7 @@ ghost use Rattle.step.specs.Byte.{Puts, Offers};
 
 use crate::puts::put_one;
 use crate::routes::route;
-use crate::{Route, State, Stream, Taken};
+use crate::{NoRoom, Route, State, Stream, Taken};
 use code::Kind;
 use sender::readings::case_after;
 
@@ -46,23 +46,28 @@ fn put_read(s: State, k: Kind, c: u8, out: &mut [u8]) -> Option<usize>
 }
 
 // One line code, with the parts of the host and TU buffers that are free.
-pub fn put_line(s: State, c: u8, host: &mut [u8], tu: &mut [u8]) -> Option<Taken>
+pub fn put_line(s: State, c: u8, host: &mut [u8], tu: &mut [u8]) -> Result<Taken, NoRoom>
     ensures { Offers Names-as-Line (line_step s c) host.old tu.old host.new tu.new result }
 {
     match route(s.connection, Stream::Line) {
         Route::ToHost => {
             let k = code::kind_of(c);
-            Some(Taken {
-                first: put_read(s, k, c, host)?,
+            let state = read_on(s, k);
+            let first = put_read(s, k, c, host).ok_or(NoRoom { state })?;
+            Ok(Taken {
+                state,
+                first,
                 second: 0,
-                state: read_on(s, k),
             })
         }
-        Route::ToTu => Some(Taken {
-            state: s,
-            first: 0,
-            second: put_one(c, tu)?,
-        }),
-        Route::Dropped | Route::ToPrinter => Some(Taken::nothing(s)),
+        Route::ToTu => {
+            let second = put_one(c, tu).ok_or(NoRoom { state: s })?;
+            Ok(Taken {
+                state: s,
+                first: 0,
+                second,
+            })
+        }
+        Route::Dropped | Route::ToPrinter => Ok(Taken::nothing(s)),
     }
 }

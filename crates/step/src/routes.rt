@@ -5,7 +5,7 @@ ghost use Rattle.step.specs.Route.{route, is_printer};
 use crate::{Route, Stream};
 use settings::Connection;
 
-// The route of a stream under a connection.
+// The route of a stream under a connection. The mode is the paper's number: an unsound state may hold any (`state_of` of spelling).
 #[tactic(auto, unfolding(crate::specs::Route::route))]
 pub fn route(c: Connection, t: Stream) -> Route
     ensures { result ≡ route c t }

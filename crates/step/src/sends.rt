@@ -9,25 +9,38 @@ ghost use Rattle.step.specs.Byte.{Offers};
 
 use crate::hears::hear;
 use crate::routes::prints;
-use crate::{Heard, State, Stream, Taken};
+use crate::{Heard, NoRoom, State, Stream, Taken};
 use sender::{Asks, Until};
 
 // The codes at the front of the line buffer, and what the host is told at the front of its own, if all of both fit.
-fn put_both(s: State, codes: &[u8], h: Heard, line: &mut [u8], host: &mut [u8]) -> Option<Taken>
+fn put_both(
+    s: State,
+    codes: &[u8],
+    h: Heard,
+    line: &mut [u8],
+    host: &mut [u8],
+) -> Result<Taken, NoRoom>
     ensures { Offers Names-as-Host (record { state = s; line = codes.now; host = tells h; tu = [] }) line.old host.old line.new host.new result }
 {
     if line.len() < codes.len() || host.len() < h.size() {
-        return None;
+        return Err(NoRoom { state: s });
     }
-    Some(Taken {
+    Ok(Taken {
         state: s,
         first: message::put(codes, line, 0),
         second: h.put(host),
     })
 }
 
-// Bytes to the printer as they are asked for, two at most. All codes are made before one is put.
-fn put_asked(s: State, asks: Asks, bytes: &[u8], line: &mut [u8], host: &mut [u8]) -> Option<Taken>
+// Bytes to the printer as they are asked for, two at most. All codes are made before one is put. The bound stays a clause: a type with it
+// would be made for each TU code too, and `Offers` names each buffer.
+fn put_asked(
+    s: State,
+    asks: Asks,
+    bytes: &[u8],
+    line: &mut [u8],
+    host: &mut [u8],
+) -> Result<Taken, NoRoom>
     requires { length bytes.now ≤ 2 }
     ensures { Offers Names-as-Host (sends s (asked_by s.settings asks bytes.now)) line.old host.old line.new host.new result }
 {
@@ -43,20 +56,20 @@ fn put_asked(s: State, asks: Asks, bytes: &[u8], line: &mut [u8], host: &mut [u8
 }
 
 // Text to the printer, a byte and before it the `/` where that was held, where that is its route; otherwise it is dropped.
-pub fn put_text(s: State, bytes: &[u8], line: &mut [u8], host: &mut [u8]) -> Option<Taken>
+pub fn put_text(s: State, bytes: &[u8], line: &mut [u8], host: &mut [u8]) -> Result<Taken, NoRoom>
     requires { length bytes.now ≤ 2 }
     ensures { Offers Names-as-Host (sends s (text s.settings (route s.connection Names-as-Host) bytes.now)) line.old host.old line.new host.new result }
 {
     if prints(s.connection, Stream::Host) {
         put_asked(s, Asks::Text, bytes, line, host)
     } else {
-        Some(Taken::nothing(s))
+        Ok(Taken::nothing(s))
     }
 }
 
 // One TU code, with the parts of the line and host buffers that are free: to the printer, where that is its route; otherwise it is
 // dropped.
-pub fn put_tu(s: State, c: u8, line: &mut [u8], host: &mut [u8]) -> Option<Taken>
+pub fn put_tu(s: State, c: u8, line: &mut [u8], host: &mut [u8]) -> Result<Taken, NoRoom>
     ensures { Offers Names-as-Tu (tu_step s c) line.old host.old line.new host.new result }
 {
     if prints(s.connection, Stream::Tu) {
@@ -67,6 +80,6 @@ pub fn put_tu(s: State, c: u8, line: &mut [u8], host: &mut [u8]) -> Option<Taken
         };
         put_asked(next, asks, &[c], line, host)
     } else {
-        Some(Taken::nothing(s))
+        Ok(Taken::nothing(s))
     }
 }

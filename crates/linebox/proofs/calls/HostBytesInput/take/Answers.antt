@@ -71,7 +71,7 @@ returns-in_default-put_read c =
     let w = (goal.at.returns-in_default-put_read c).After-run-kept in
     let some = c.in-len1-up.len_at_least in
     rw c.ended-in_default-put_read.ensures
-    (stays Host a.start a.input.now a.line.now a.host.now (with_reader x.state c.run-kept.result.reader) _ _ _ (drop-cons _ 0 0 some) _ l.host (l.one + x.count) l.two (kept_of w) _ _ refl (rw (next_of w some) at c.in_default-put_read.ensures))
+    (stays Host a.start a.input.now a.line.now a.host.now (with_reader x.state c.run-kept.result.reader) _ _ _ (drop-cons _ 0 0 some) _ l.host (l.one + x.count) l.two (kept_of w) _ _ _ refl (rw (next_of w some) at c.in_default-put_read.ensures))
 
 pub overflow_add-one-in-loop-rest : goal.overflow_add-one-in-loop-rest
 overflow_add-one-in-loop-rest c =
@@ -80,7 +80,7 @@ overflow_add-one-in-loop-rest c =
     let x = c.take_text-text.result in
     let w = (goal.at.overflow_add-one-in-loop-rest c).After-run-kept in
     let some = c.in-len1-up.len_at_least in
-    let t = turn Host a.start a.input.now a.line.now a.host.now (with_reader x.state c.run-kept.result.reader) _ _ _ (drop-cons _ 0 0 some) _ l.host (l.one + x.count) l.two (kept_of w) _ _ c.in-Some.x refl (rw (next_of w some) at c.in-Some.ensures) in
+    let t = turn Host a.start a.input.now a.line.now a.host.now (with_reader x.state c.run-kept.result.reader) _ _ _ (drop-cons _ 0 0 some) _ l.host (l.one + x.count) l.two (kept_of w) _ _ c.in-Ok.x refl (rw (next_of w some) at c.in-Ok.ensures) in
     omega (arith, t.one.room, c.well_formed)
 
 pub overflow_add-two : goal.overflow_add-two
@@ -90,7 +90,7 @@ overflow_add-two c =
     let x = c.take_text-text.result in
     let w = (goal.at.overflow_add-two c).After-run-kept in
     let some = c.in-len1-up.len_at_least in
-    let t = turn Host a.start a.input.now a.line.now a.host.now (with_reader x.state c.run-kept.result.reader) _ _ _ (drop-cons _ 0 0 some) _ l.host (l.one + x.count) l.two (kept_of w) _ _ c.in-Some.x refl (rw (next_of w some) at c.in-Some.ensures) in
+    let t = turn Host a.start a.input.now a.line.now a.host.now (with_reader x.state c.run-kept.result.reader) _ _ _ (drop-cons _ 0 0 some) _ l.host (l.one + x.count) l.two (kept_of w) _ _ c.in-Ok.x refl (rw (next_of w some) at c.in-Ok.ensures) in
     omega (arith, t.two.room, c.well_formed)
 
 pub loop-rest-preserved : goal.loop-rest-preserved
@@ -103,7 +103,7 @@ loop-rest-preserved c =
     let some = c.in-len1-up.len_at_least in
     let left = take (length l.rest.now - x.taken) (drop x.taken l.rest.now) in
     rw (to_end (take (length left - u.taken) (drop u.taken left)) 1)
-    (turn Host a.start a.input.now a.line.now a.host.now (with_reader x.state u.reader) _ _ _ (drop-cons _ 0 0 some) _ l.host (l.one + x.count) l.two (kept_of w) _ _ c.in-Some.x refl (rw (next_of w some) at c.in-Some.ensures))
+    (turn Host a.start a.input.now a.line.now a.host.now (with_reader x.state u.reader) _ _ _ (drop-cons _ 0 0 some) _ l.host (l.one + x.count) l.two (kept_of w) _ _ c.in-Ok.x refl (rw (next_of w some) at c.in-Ok.ensures))
 
 pub returns : goal.returns
 returns c =

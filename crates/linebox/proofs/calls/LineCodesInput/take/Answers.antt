@@ -32,10 +32,10 @@ returns-in_default c =
     let a = c.args in
     let lt = c.loop-taken-test.true in
     rw c.ended-in_default.ensures
-    (rw (taken a.codes.now l.taken lt) at (stays Line a.start a.codes.now a.host.now a.tu.now l.state _ _ _ (here a.codes.now l.taken lt) l.host l.tu l.one l.two l.invariant _ _ (le-ltb _ _ c.if-c-gt31.false) c.in_default.ensures))
+    (rw (taken a.codes.now l.taken lt) at (stays Line a.start a.codes.now a.host.now a.tu.now l.state _ _ _ (here a.codes.now l.taken lt) l.host l.tu l.one l.two l.invariant _ _ _ (le-ltb _ _ c.if-c-gt31.false) c.in_default.ensures))
 
 pub loop-taken-preserved : goal.loop-taken-preserved
 loop-taken-preserved c =
     let l = c.loop-taken in
     let a = c.args in
-    turn Line a.start a.codes.now a.host.now a.tu.now l.state _ _ _ (here a.codes.now l.taken c.loop-taken-test.true) l.host l.tu l.one l.two l.invariant _ _ c.in-Some.x (le-ltb _ _ c.if-c-gt31.false) c.in-Some.ensures
+    turn Line a.start a.codes.now a.host.now a.tu.now l.state _ _ _ (here a.codes.now l.taken c.loop-taken-test.true) l.host l.tu l.one l.two l.invariant _ _ c.in-Ok.x (le-ltb _ _ c.if-c-gt31.false) c.in-Ok.ensures

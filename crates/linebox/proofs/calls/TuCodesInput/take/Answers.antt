@@ -47,7 +47,7 @@ returns-in_default-put_tu c =
     let a = c.args in
     let x = c.take_codes-run.result in
     rw c.ended-in_default-put_tu.ensures
-    (stays Tu a.start a.codes.now a.line.now a.host.now x.state _ _ _ (drop-cons _ 0 0 (omega (arith, c.in-len1-up.len_at_least))) _ l.host (l.one + x.count) l.two (run_of (goal.at.returns-in_default-put_tu c).After-take_codes-run) _ _ (le-ltb _ _ c.if-code-gt31.false) c.in_default-put_tu.ensures)
+    (stays Tu a.start a.codes.now a.line.now a.host.now x.state _ _ _ (drop-cons _ 0 0 (omega (arith, c.in-len1-up.len_at_least))) _ l.host (l.one + x.count) l.two (run_of (goal.at.returns-in_default-put_tu c).After-take_codes-run) _ _ _ (le-ltb _ _ c.if-code-gt31.false) c.in_default-put_tu.ensures)
 
 pub loop-rest-preserved : goal.loop-rest-preserved
 loop-rest-preserved c =
@@ -55,7 +55,7 @@ loop-rest-preserved c =
     let a = c.args in
     let x = c.take_codes-run.result in
     rw (to_end (take (length l.rest.now - x.taken) (drop x.taken l.rest.now)) 1)
-    (turn Tu a.start a.codes.now a.line.now a.host.now x.state _ _ _ (drop-cons _ 0 0 (omega (arith, c.in-len1-up.len_at_least))) _ l.host (l.one + x.count) l.two (run_of (goal.at.loop-rest-preserved c).After-take_codes-run) _ _ c.in-Some.x (le-ltb _ _ c.if-code-gt31.false) c.in-Some.ensures)
+    (turn Tu a.start a.codes.now a.line.now a.host.now x.state _ _ _ (drop-cons _ 0 0 (omega (arith, c.in-len1-up.len_at_least))) _ l.host (l.one + x.count) l.two (run_of (goal.at.loop-rest-preserved c).After-take_codes-run) _ _ c.in-Ok.x (le-ltb _ _ c.if-code-gt31.false) c.in-Ok.ensures)
 
 pub returns : goal.returns
 returns c =
