@@ -30,6 +30,7 @@ pub enum Form {
 // How far the reader is. Swallow: nothing is held, and a CR that ended a command came just before. Held: a `/` is held. Begun:
 // `/.` came. Lettered: one letter, whether it is small and whether it is T. Typed: both letters. Fields: the type, what stands in
 // the field being read, and which one that is, from 0; 11 stands for too many. Discard: the rest is being discarded.
+// 11 stays a number: so C saves it (include/linebox.h, byte 26 of a state), and `is_sound` tests it in a state that C lends.
 #[derive(Clone, Copy, PartialEq, Eq)]
 pub enum Stage {
     Text,
@@ -52,6 +53,7 @@ pub struct Reader {
 // What a byte makes: nothing, one text byte, two (the `/` that was held and the byte), or a finished command, with its type and
 // how many fields it has, 12 for too many. The fields stand in the reader as it was before the byte.
 // Four outcomes, by what the caller does with each; no Option or Result of them would be plainer.
+// 12 stays a number: `settings::Setup::run` (docs/PROMISES.md) takes any count as one, and its clause `commanded` speaks of it.
 #[derive(Clone, Copy, PartialEq, Eq)]
 pub enum Out {
     Nothing,
@@ -69,6 +71,7 @@ pub struct Step {
 
 // A run of bytes that made nothing: the reader after them, how many they are, and what the next byte does; where none is left, it
 // does nothing.
+// `next` is no Option: `linebox` sees by the bytes that are left whether there is one, and would test the same twice.
 #[derive(Clone, Copy)]
 pub struct Running {
     pub reader: Reader,
