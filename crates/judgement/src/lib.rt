@@ -17,6 +17,7 @@ pub enum Spot {
 }
 
 // Whether what a code was to print stands on the paper.
+// Five kinds, and none of them a refusal: `Nothing` is itself the verdict on a code that strikes nothing. An Option is no plainer.
 #[derive(Clone, Copy)]
 pub enum Verdict {
     Nothing,
@@ -83,7 +84,8 @@ pub struct Tally {
 
 // A line of the paper. At each place: what is seen, and the number of its verdict, 0 where nothing was struck. What is struck at
 // a place that is not known drifts: it is held by the first place that it may be at. With it, how many of each there were.
-// `stand` stays a row of numbers: `Line::standings`, `strike`, `last_verdict` and `tally` (docs/PROMISES.md) answer for any bytes, and a verdict asks more.
+// `stand` stays a row of numbers: `Line::standings`, `strike`, `last_verdict` and `tally` (docs/PROMISES.md) answer for any bytes,
+// and a verdict asks more.
 // The three rows stay apart: each is shown whole, and the laws of what stands (`over_if`, `over_only`) speak of `stand` alone.
 #[derive(Clone, Copy)]
 pub struct Line {
