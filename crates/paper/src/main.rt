@@ -52,7 +52,8 @@ fn print_stretch(out: &mut Output<'_, impl Print>, s: Stretch) {
 
 // Prints the places that stand as `v`, after a name, if there are any.
 fn print_places(out: &mut Output<'_, impl Print>, name: &str, standings: &[u8], v: Verdict) {
-    if standings.contains(&u8::from(v)) {
+    let v = u8::from(v);
+    if standings.contains(&v) {
         out.print(name);
     }
     let mut held = None;

@@ -1,9 +1,8 @@
 // What is shown of a line of the paper: its rows as they stood, and the stretches of places that stand alike.
 ghost use Rattle.std.specs.Prelude.{◌≡◌, ◌≤◌, length};
-ghost use Rattle.judgement.specs.Verdict.{number_of};
 ghost use Rattle.paper.specs.Show.{marked, size_from, inked, spaced, after_place};
 
-use judgement::{Line, Verdict};
+use judgement::Line;
 
 // A run of places that stand alike, with bare ones between them: from where to where.
 #[derive(Clone, Copy)]
@@ -44,10 +43,11 @@ pub fn space(row: &mut [u8])
 }
 
 // The stretch after a place that stands so, of those that stand as `v`. Another kind ends it, and a bare place does not.
-pub fn after_place(s: Option<Stretch>, i: usize, stand: u8, v: Verdict) -> Option<Stretch>
-    ensures { result ≡ after_place s i stand (number_of v) }
+// `v` stays a number: docs/PROMISES.md names `show`, whose answers hold for every number there, and a verdict would ask more.
+pub fn after_place(s: Option<Stretch>, i: usize, stand: u8, v: u8) -> Option<Stretch>
+    ensures { result ≡ after_place s i stand v }
 {
-    if stand == u8::from(v) {
+    if stand == v {
         let from = s.map_or(i, |s| s.from);
         return Some(Stretch { from, to: i });
     }
