@@ -11,15 +11,16 @@ use lib.Dec.{eqb}
 use lib.ListN.{length, drop}
 use Rattle.std.proofs.lemmas.Bool.{and_parts}
 use Rattle.message.specs.declared.Scan.{Scan}
-use Rattle.message.specs.declared.Scan.TheVariants.{Bad, Opening, Comma, In}
-use Rattle.std.proofs.Common.{Some, None}
+use Rattle.message.specs.declared.Scan.TheVariants.{Opening, Comma, In}
+use Rattle.std.proofs.Common.{Option, Some, None, option_and_then}
 use Rattle.std.specs.Bool.{then_some}
 use Rattle.std.proofs.lemmas.Option.{none-some, same_Some}
 use Rattle.message.specs.Message.{crlf, mark, numbers, framed}
 use Rattle.message.specs.Find.{AllBytes, Counted}
 use Rattle.message.specs.Scan.{scan, complete, prefix, ends_here, numbers_from, message_at}
 use Rattle.message.proofs.Prefix.{prefix_front}
-use Rattle.message.proofs.Reading.{run, all_read, read_numbered}
+use Rattle.message.proofs.Reading.{run, run_none, all_complete, all_read, read_numbered}
+use Rattle.message.proofs.Turns.{ends_here_law}
 
 -- ---- up to the next CR LF
 -- the bytes before it are w
@@ -28,7 +29,7 @@ record Ended (st : Scan) (k : ℕ) (s : List ℕ) (m : ℕ) : Type 0 where
   rest : List ℕ
   spelt : s ≡ w ++ crlf ++ rest
   long : m ≡ k + length w
-  done : complete (run st w) ≡ true
+  done : all_complete (run (Some st) w) ≡ true
 
 ended_here : (st : Scan) (k : ℕ) (s : List ℕ) (m : ℕ) → ends_here st k s ≡ Some m → Ended st k s m
 ended_here st k s m e = go (prefix crlf s && complete st) refl e
@@ -41,35 +42,42 @@ ended_here st k s m e = go (prefix crlf s && complete st) refl e
 
 ended_at : (st : Scan) (k : ℕ) (s : List ℕ) (m : ℕ) → numbers_from st k s ≡ Some m → Ended st k s m
 ended_at st k [] m e = absurd (none-some m e)
-ended_at st k (b ∷ s) m e = go (eqb b 13) e (ended_at (scan st b) (suc k) s m)
+ended_at st k (b ∷ s) m e = go (eqb b 13) e (λ x. ended_at x (suc k) s m)
   where
-    go : (t : Bool) → cond t (ends_here st k (b ∷ s)) (numbers_from (scan st b) (suc k) s) ≡ Some m
-        → (numbers_from (scan st b) (suc k) s ≡ Some m → Ended (scan st b) (suc k) s m) → Ended st k (b ∷ s) m
-    go true d rest = ended_here st k (b ∷ s) m d
-    go false d rest =
-        let r = rest d in
+    more : (o : Option Scan) → scan st b ≡ o → option_and_then (λ x. numbers_from x (suc k) s) o ≡ Some m
+        → ((x : Scan) → numbers_from x (suc k) s ≡ Some m → Ended x (suc k) s m) → Ended st k (b ∷ s) m
+    more None f d rest = absurd (none-some m d)
+    more (Some x) f d rest =
+        let r = rest x d in
         let l = r.long in
-        record { w = b ∷ r.w; rest = r.rest; spelt = ap (λ (x : List ℕ). b ∷ x) r.spelt; long = omega arith; done = r.done }
+        record { w = b ∷ r.w; rest = r.rest; spelt = ap (λ (x : List ℕ). b ∷ x) r.spelt; long = omega arith; done = rw f r.done }
 
-bad : (w : List ℕ) → run Bad w ≡ Bad
-bad [] = refl
-bad (b ∷ w) = bad w
+    go : (t : Bool) → cond t (ends_here st k (b ∷ s)) (option_and_then (λ x. numbers_from x (suc k) s) (scan st b)) ≡ Some m
+        → ((x : Scan) → numbers_from x (suc k) s ≡ Some m → Ended x (suc k) s m) → Ended st k (b ∷ s) m
+    go true d rest = ended_here st k (b ∷ s) m d
+    go false d rest = more (scan st b) refl d rest
 
 -- a CR is no byte of the numbers
-cr_bad : (st : Scan) → scan st 13 ≡ Bad
-cr_bad Bad = refl
-cr_bad Opening = refl
-cr_bad (Comma p) = refl
-cr_bad (In p v) = refl
+cr_none : (st : Scan) → scan st 13 ≡ None
+cr_none Opening = refl
+cr_none (Comma p) = refl
+cr_none (In p v) = refl
 
-reaches : (st : Scan) (k : ℕ) (w rest : List ℕ) → complete (run st w) ≡ true → numbers_from st k (w ++ crlf ++ rest) ≡ Some (k + length w)
-reaches st k [] rest e = rw (e, add-zero)
-reaches st k (b ∷ w) rest e = go (eqb b 13) refl (reaches (scan st b) (suc k) w rest e)
+reaches : (st : Scan) (k : ℕ) (w rest : List ℕ) → all_complete (run (Some st) w) ≡ true → numbers_from st k (w ++ crlf ++ rest) ≡ Some (k + length w)
+reaches st k [] rest e = sym (ends_here_law st k (crlf ++ rest) refl e) ∙ rw add-zero
+reaches st k (b ∷ w) rest e = go (eqb b 13) refl (λ x. reaches x (suc k) w rest)
   where
-    go : (t : Bool) → eqb b 13 ≡ t → numbers_from (scan st b) (suc k) (w ++ crlf ++ rest) ≡ Some (suc k + length w)
-        → cond t (ends_here st k (b ∷ w ++ crlf ++ rest)) (numbers_from (scan st b) (suc k) (w ++ crlf ++ rest)) ≡ Some (k + suc (length w))
-    go true d r = absurd (false≢true (rw (eqb-true b 13 d, cr_bad st, bad w) at e))
-    go false d r = let l : suc k + length w ≡ k + suc (length w) = omega arith in r ∙ rw l
+    more : (o : Option Scan) → all_complete (run o w) ≡ true
+        → ((x : Scan) → all_complete (run (Some x) w) ≡ true → numbers_from x (suc k) (w ++ crlf ++ rest) ≡ Some (suc k + length w))
+        → option_and_then (λ x. numbers_from x (suc k) (w ++ crlf ++ rest)) o ≡ Some (k + suc (length w))
+    more None d r = absurd (false≢true (rw (run_none w) at d))
+    more (Some x) d r = let l : suc k + length w ≡ k + suc (length w) = omega arith in r x d ∙ rw l
+
+    go : (t : Bool) → eqb b 13 ≡ t
+        → ((x : Scan) → all_complete (run (Some x) w) ≡ true → numbers_from x (suc k) (w ++ crlf ++ rest) ≡ Some (suc k + length w))
+        → cond t (ends_here st k (b ∷ w ++ crlf ++ rest)) (option_and_then (λ x. numbers_from x (suc k) (w ++ crlf ++ rest)) (scan st b)) ≡ Some (k + suc (length w))
+    go true d r = absurd (false≢true (rw (eqb-true b 13 d, cr_none st, run_none w) at e))
+    go false d r = more (scan st b) e r
 
 -- ---- a message
 -- some message is the front, and its numbers take k bytes

@@ -11,7 +11,7 @@ use lib.ListN.{length, take, drop}
 use lib.Seq.{drop-drop, take-append_seam, drop-append-add}
 use Rattle.message.specs.declared.Scan.{Scan}
 use Rattle.message.specs.declared.Scan.TheVariants.{Opening}
-use Rattle.std.proofs.Common.{Option, Some, None}
+use Rattle.std.proofs.Common.{Option, Some, None, option_and_then}
 use Rattle.message.specs.Message.{crlf, mark, numbers, body, framed, message}
 use Rattle.message.specs.Find.{AllBytes, Counted, Earliest, NoMessage}
 use Rattle.message.specs.Scan.{scan, prefix, numbers_from, message_at, placed, located_from, located}
@@ -26,7 +26,12 @@ lf_alike (b ∷ w) x = refl
 
 numbers_alike : (st : Scan) (k : ℕ) (w x : List ℕ) → numbers_from st k (w ++ (crlf ++ x)) ≡ numbers_from st k (w ++ crlf)
 numbers_alike st k [] x = refl
-numbers_alike st k (b ∷ w) x = rw (lf_alike w x, numbers_alike (scan st b) (suc k) w x)
+numbers_alike st k (b ∷ w) x = rw (lf_alike w x, go (scan st b) (λ y. numbers_alike y (suc k) w x))
+  where
+    go : (o : Option Scan) → ((y : Scan) → numbers_from y (suc k) (w ++ (crlf ++ x)) ≡ numbers_from y (suc k) (w ++ crlf))
+        → option_and_then (λ y. numbers_from y (suc k) (w ++ (crlf ++ x))) o ≡ option_and_then (λ y. numbers_from y (suc k) (w ++ crlf)) o
+    go None same = refl
+    go (Some y) same = same y
 
 -- a word with no CR in it
 abbrev plain : List ℕ → Bool

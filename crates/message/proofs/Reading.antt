@@ -9,13 +9,15 @@ use native.Mathlib.Omega.{arith}
 use borrow.Author.Tests.{eq-eqb, le-leb, le-ltb, leb-true, ltb-true, ltb-false, eqb-true, eqb-false}
 use lib.Dec.{T, eqb, leb, ltb, eqb-zero-suc, eqb-suc-zero, eqb-suc-suc}
 use lib.ListN.{length}
+use Rattle.std.proofs.Common.{Option, Some, None, option_map}
+use Rattle.std.specs.Option.{option_map_or}
 use Rattle.laws.specs.Same.{same}
 use Rattle.laws.proofs.Same.{same_tested}
 use Rattle.laws.proofs.Table.{upto, below}
 use Rattle.message.specs.declared.Phase.{Phase}
-use Rattle.message.specs.declared.Phase.TheVariants.{First, Rest, Over}
+use Rattle.message.specs.declared.Phase.TheVariants.{First, Rest}
 use Rattle.message.specs.declared.Scan.{Scan}
-use Rattle.message.specs.declared.Scan.TheVariants.{Bad, Opening, Comma, In}
+use Rattle.message.specs.declared.Scan.TheVariants.{Opening, Comma, In}
 use Rattle.message.specs.Message.{digit, digits, numbers}
 use Rattle.message.specs.Find.{AllBytes, Counted}
 use Rattle.message.specs.Scan.{ended, whole, is_digit, more, scan, complete}
@@ -23,42 +25,61 @@ use Rattle.message.proofs.Digits.{one_digit}
 use Rattle.message.proofs.Sizes.{marked_append}
 use Rattle.message.proofs.Turns.{digit_bounds, more_fits, in_digit}
 
--- the bytes of w, from a state on
-abbrev pub run : Scan → List ℕ → Scan
-run st [] = st
-run st (b ∷ w) = run (scan st b) w
+-- the bytes of w, from a state on, if there is one still
+abbrev next : Option Scan → ℕ → Option Scan
+next None b = None
+next (Some st) b = scan st b
 
--- the numbers of a list, from a phase on
-abbrev pub reads : Phase → List ℕ → Phase
-reads p [] = p
-reads p (n ∷ ns) = reads (ended p n) ns
+abbrev pub run : Option Scan → List ℕ → Option Scan
+run o [] = o
+run o (b ∷ w) = run (next o b) w
 
-pub run_append : (st : Scan) (v w : List ℕ) → run st (v ++ w) ≡ run (run st v) w
-run_append st [] w = refl
-run_append st (b ∷ v) w = run_append (scan st b) v w
+-- the numbers of a list, from a phase on, if there is one still
+abbrev after : Option Phase → ℕ → Option Phase
+after None n = None
+after (Some p) n = ended p n
 
-reads_append : (p : Phase) (ms ns : List ℕ) → reads p (ms ++ ns) ≡ reads (reads p ms) ns
-reads_append p [] ns = refl
-reads_append p (m ∷ ms) ns = reads_append (ended p m) ms ns
+abbrev pub reads : Option Phase → List ℕ → Option Phase
+reads o [] = o
+reads o (n ∷ ns) = reads (after o n) ns
+
+-- there is a state still, and the numbers may end in it; there is a phase still, and in it they are whole
+abbrev pub all_complete : Option Scan → Bool
+all_complete o = option_map_or complete o false
+
+abbrev pub all_whole : Option Phase → Bool
+all_whole o = option_map_or whole o false
+
+pub run_append : (o : Option Scan) (v w : List ℕ) → run o (v ++ w) ≡ run (run o v) w
+run_append o [] w = refl
+run_append o (b ∷ v) w = run_append (next o b) v w
+
+pub run_none : (w : List ℕ) → run None w ≡ None
+run_none [] = refl
+run_none (b ∷ w) = run_none w
+
+reads_append : (o : Option Phase) (ms ns : List ℕ) → reads o (ms ++ ns) ≡ reads (reads o ms) ns
+reads_append o [] ns = refl
+reads_append o (m ∷ ms) ns = reads_append (after o m) ms ns
 
 -- ---- the second number counts the rest
-over : (ns : List ℕ) → whole (reads Over ns) ≡ false
+over : (ns : List ℕ) → all_whole (reads None ns) ≡ false
 over [] = refl
 over (n ∷ ns) = over ns
 
-left : (n : ℕ) (values : List ℕ) → whole (reads (Rest n) values) ≡ eqb n (length values)
+left : (n : ℕ) (values : List ℕ) → all_whole (reads (Some (Rest n)) values) ≡ eqb n (length values)
 left n [] = refl
 left zero (v ∷ values) = over values ∙ sym (eqb-zero-suc (length values))
 left (suc n) (v ∷ values) =
     let s : suc n - 1 ≡ n = omega arith in
     rw (eqb-suc-zero n, s, eqb-suc-suc n (length values)) (left n values)
 
-pub counted : (ns : List ℕ) → whole (reads First ns) ≡ true → Counted ns
+pub counted : (ns : List ℕ) → all_whole (reads (Some First) ns) ≡ true → Counted ns
 counted [] e = false≢true e
 counted (id ∷ []) e = false≢true e
 counted (id ∷ n ∷ values) e = eqb-true n (length values) (sym (left n values) ∙ e)
 
-pub whole_of : (ns : List ℕ) → Counted ns → whole (reads First ns) ≡ true
+pub whole_of : (ns : List ℕ) → Counted ns → all_whole (reads (Some First) ns) ≡ true
 whole_of [] e = absurd e
 whole_of (id ∷ []) e = absurd e
 whole_of (id ∷ n ∷ values) e = left n values ∙ eq-eqb n (length values) e
@@ -94,17 +115,17 @@ not_comma : (d : ℕ) → digit d ≡ 44 → ⊥
 not_comma d e = omega arith
 
 module _ (p : Phase) where
-  first_digit : (d : ℕ) → d < 10 → scan (Comma p) (digit d) ≡ In p d
+  first_digit : (d : ℕ) → d < 10 → scan (Comma p) (digit d) ≡ Some (In p d)
   first_digit d h = rw (is_digit_law d h, ← value d)
 
-  next_digit : (v d : ℕ) → (v ≡ 0 → ⊥) → d < 10 → v * 10 + d ≤ 255 → scan (In p v) (digit d) ≡ In p (v * 10 + d)
+  next_digit : (v d : ℕ) → (v ≡ 0 → ⊥) → d < 10 → v * 10 + d ≤ 255 → scan (In p v) (digit d) ≡ Some (In p (v * 10 + d))
   next_digit v d z l h = sym (in_digit p v (digit d) _ (not_comma d) (is_digit_law d l) (more_fits p v (digit d) v d z refl (value d) h))
 
-  number : (k n : ℕ) → n < k → n ≤ 255 → run (Comma p) (digits n) ≡ In p n
+  number : (k n : ℕ) → n < k → n ≤ 255 → run (Some (Comma p)) (digits n) ≡ Some (In p n)
   number zero n h m = absurd (not-suc-le-zero h)
   number (suc k) n h m = go (ltb n 10) refl (number k (n / 10))
     where
-      go : (b : Bool) → ltb n 10 ≡ b → (n / 10 < k → n / 10 ≤ 255 → run (Comma p) (digits (n / 10)) ≡ In p (n / 10)) → run (Comma p) (digits n) ≡ In p n
+      go : (b : Bool) → ltb n 10 ≡ b → (n / 10 < k → n / 10 ≤ 255 → run (Some (Comma p)) (digits (n / 10)) ≡ Some (In p (n / 10))) → run (Some (Comma p)) (digits n) ≡ Some (In p n)
       go true e rest = let l : n < 10 = ltb-true n 10 e in rw (one_digit n l) (first_digit n l)
       go false e rest =
           let l : 10 ≤ n = ltb-false n 10 e in
@@ -113,88 +134,98 @@ module _ (p : Phase) where
           rw (digits_split n l m, run_append, rest (omega arith) (omega arith))
           (next_digit (n / 10) (n % 10) z (omega arith) (omega arith) ∙ rw j)
 
-  pub number_read : (n : ℕ) → n ≤ 255 → run (Comma p) (digits n) ≡ In p n
+  pub number_read : (n : ℕ) → n ≤ 255 → run (Some (Comma p)) (digits n) ≡ Some (In p n)
   number_read n h = number (suc n) n (omega arith) h
 
-rest_read : (p : Phase) (v : ℕ) (ns : List ℕ) → AllBytes ns → complete (run (In p v) (numbers ns)) ≡ whole (reads (ended p v) ns)
+rest_read : (p : Phase) (v : ℕ) (ns : List ℕ) → AllBytes ns → all_complete (run (Some (In p v)) (numbers ns)) ≡ all_whole (reads (ended p v) ns)
 rest_read p v [] h = refl
-rest_read p v (n ∷ ns) h = rw (run_append, number_read (ended p v) n h.0) (rest_read (ended p v) n ns h.1)
+rest_read p v (n ∷ ns) h = go (ended p v) (λ q. rest_read q n ns h.1)
+  where
+    go : (o : Option Phase) → ((q : Phase) → all_complete (run (Some (In q n)) (numbers ns)) ≡ all_whole (reads (ended q n) ns))
+        → all_complete (run (option_map Comma o) (digits n ++ numbers ns)) ≡ all_whole (reads (after o n) ns)
+    go None rest = rw (run_none (digits n ++ numbers ns)) (sym (over ns))
+    go (Some q) rest = rw (run_append, number_read q n h.0) (rest q)
 
 -- the numbers of a message are read to their end
-pub all_read : (ns : List ℕ) → AllBytes ns → Counted ns → complete (run Opening (numbers ns)) ≡ true
+pub all_read : (ns : List ℕ) → AllBytes ns → Counted ns → all_complete (run (Some Opening) (numbers ns)) ≡ true
 all_read [] h e = absurd e
 all_read (n ∷ ns) h e = rw (run_append, number_read First n h.0) (rest_read First n ns h.1 ∙ whole_of (n ∷ ns) e)
 
 -- ---- what is read was written
 -- whole numbers, and then the beginning of one more
-pub record Before (p : Phase) (w end : List ℕ) : Type 0 where
+pub record Before (p : Option Phase) (w end : List ℕ) : Type 0 where
   pub ns : List ℕ
   pub bytes : AllBytes ns
-  pub phase : p ≡ reads First ns
+  pub phase : p ≡ reads (Some First) ns
   pub spelt : w ≡ numbers ns ++ end
 
 -- what each state says of the bytes read
-abbrev pub Read : Scan → List ℕ → Type 0
-Read Bad w = Unit {0}
-Read Opening w = w ≡ []
-Read (Comma p) w = Before p w (44 ∷ [])
-Read (In p v) w = (v ≤ 255) × Before p w (44 ∷ digits v)
+abbrev pub Read : Option Scan → List ℕ → Type 0
+Read None w = Unit {0}
+Read (Some Opening) w = w ≡ []
+Read (Some (Comma p)) w = Before (Some p) w (44 ∷ [])
+Read (Some (In p v)) w = (v ≤ 255) × Before (Some p) w (44 ∷ digits v)
 
 bytes_append : (ns : List ℕ) (v : ℕ) → AllBytes ns → v ≤ 255 → AllBytes (ns ++ v ∷ [])
 bytes_append [] v h m = (m, tt)
 bytes_append (n ∷ ns) v h m = (h.0, bytes_append ns v h.1 m)
 
 -- a number that ends is one of the whole numbers
-finished : (p : Phase) (v : ℕ) (w : List ℕ) → v ≤ 255 → Before p w (44 ∷ digits v) → Before (ended p v) w []
+finished : (p : Phase) (v : ℕ) (w : List ℕ) → v ≤ 255 → Before (Some p) w (44 ∷ digits v) → Before (ended p v) w []
 finished p v w h r =
     record {
       ns = r.ns ++ v ∷ [];
       bytes = bytes_append r.ns v r.bytes h;
-      phase = rw (reads_append, r.phase);
+      phase = rw (reads_append, ← r.phase);
       spelt = r.spelt ∙ rw (append-nil, marked_append, append-nil);
     }
 
-longer : (p : Phase) (w end : List ℕ) (b : ℕ) → Before p w end → Before p (w ++ b ∷ []) (end ++ b ∷ [])
+longer : (p : Option Phase) (w end : List ℕ) (b : ℕ) → Before p w end → Before p (w ++ b ∷ []) (end ++ b ∷ [])
 longer p w end b r = record { ns = r.ns; bytes = r.bytes; phase = r.phase; spelt = rw (r.spelt, append_assoc) }
 
 digit_of : (b : ℕ) → 48 ≤ b → digit (b - 48) ≡ b
 digit_of b h = omega arith
 
-module _ (p : Phase) (v : ℕ) (w : List ℕ) (b : ℕ) (r : Before p w (44 ∷ digits v)) (h : 48 ≤ b) (m : b ≤ 57) where
+module _ (p : Phase) (v : ℕ) (w : List ℕ) (b : ℕ) (r : Before (Some p) w (44 ∷ digits v)) (h : 48 ≤ b) (m : b ≤ 57) where
   another : Read (more p v b) (w ++ b ∷ [])
   another = go (eqb v 0) refl (leb (v * 10 + (b - 48)) 255) refl
     where
-      go : (t : Bool) → eqb v 0 ≡ t → (u : Bool) → leb (v * 10 + (b - 48)) 255 ≡ u → Read (cond t Bad (cond u (In p (v * 10 + (b - 48))) Bad)) (w ++ b ∷ [])
+      go : (t : Bool) → eqb v 0 ≡ t → (u : Bool) → leb (v * 10 + (b - 48)) 255 ≡ u → Read (cond t None (cond u (Some (In p (v * 10 + (b - 48)))) None)) (w ++ b ∷ [])
       go true e u f = tt
       go false e true f =
           let l : v * 10 + (b - 48) ≤ 255 = leb-true _ _ f in
-          (l, rw (digits_more v (b - 48) (eqb-false v 0 e) (omega arith) l, digit_of b h) (longer p w (44 ∷ digits v) b r))
+          (l, rw (digits_more v (b - 48) (eqb-false v 0 e) (omega arith) l, digit_of b h) (longer (Some p) w (44 ∷ digits v) b r))
       go false e false f = tt
 
-step : (st : Scan) (w : List ℕ) (b : ℕ) → Read st w → Read (scan st b) (w ++ b ∷ [])
-step Bad w b r = tt
-step Opening w b r = go (eqb b 44) refl
+-- a comma after a number that ended
+comma : (o : Option Phase) (w : List ℕ) → Before o w (44 ∷ []) → Read (option_map Comma o) w
+comma None w r = tt
+comma (Some p) w r = r
+
+step : (o : Option Scan) (w : List ℕ) (b : ℕ) → Read o w → Read (next o b) (w ++ b ∷ [])
+step None w b r = tt
+step (Some Opening) w b r = go (eqb b 44) refl
   where
-    go : (t : Bool) → eqb b 44 ≡ t → Read (cond t (Comma First) Bad) (w ++ b ∷ [])
+    go : (t : Bool) → eqb b 44 ≡ t → Read (cond t (Some (Comma First)) None) (w ++ b ∷ [])
     go true e = record { ns = []; bytes = tt; phase = refl; spelt = rw (r, eqb-true b 44 e) }
     go false e = tt
-step (Comma p) w b r = go (is_digit b) refl
+step (Some (Comma p)) w b r = go (is_digit b) refl
   where
-    go : (t : Bool) → is_digit b ≡ t → Read (cond t (In p (b - 48)) Bad) (w ++ b ∷ [])
+    go : (t : Bool) → is_digit b ≡ t → Read (cond t (Some (In p (b - 48))) None) (w ++ b ∷ [])
     go true e =
         let h = digit_bounds b e in
-        (omega arith, rw (one_digit (b - 48) (omega arith), digit_of b h.0) (longer p w (44 ∷ []) b r))
+        (omega arith, rw (one_digit (b - 48) (omega arith), digit_of b h.0) (longer (Some p) w (44 ∷ []) b r))
     go false e = tt
-step (In p v) w b r = go (eqb b 44) refl (is_digit b) refl
+step (Some (In p v)) w b r = go (eqb b 44) refl (is_digit b) refl
   where
-    go : (t : Bool) → eqb b 44 ≡ t → (u : Bool) → is_digit b ≡ u → Read (cond t (Comma (ended p v)) (cond u (more p v b) Bad)) (w ++ b ∷ [])
-    go true e u f = rw (eqb-true b 44 e) (longer (ended p v) w [] 44 (finished p v w r.0 r.1))
+    go : (t : Bool) → eqb b 44 ≡ t → (u : Bool) → is_digit b ≡ u → Read (cond t (option_map Comma (ended p v)) (cond u (more p v b) None)) (w ++ b ∷ [])
+    go true e u f = comma (ended p v) (w ++ b ∷ []) (rw (eqb-true b 44 e) (longer (ended p v) w [] 44 (finished p v w r.0 r.1)))
     go false e true f = let h = digit_bounds b f in another p v w b r.1 h.0 h.1
     go false e false f = tt
 
-steps : (st : Scan) (v w : List ℕ) → Read st v → Read (run st w) (v ++ w)
-steps st v [] r = rw append-nil r
-steps st v (b ∷ w) r = rw append_assoc at (steps (scan st b) (v ++ b ∷ []) w (step st v b r))
+steps : (o : Option Scan) (v w : List ℕ) → Read o v → Read (run o w) (v ++ w)
+steps o v [] r = rw append-nil r
+steps o v (b ∷ w) r = rw append_assoc at (steps (next o b) (v ++ b ∷ []) w (step o v b r))
 
 -- the bytes are the numbers of a message
 pub record Numbered (w : List ℕ) : Type 0 where
@@ -203,13 +234,13 @@ pub record Numbered (w : List ℕ) : Type 0 where
   pub count : Counted ns
   pub spelt : w ≡ numbers ns
 
-ending : (st : Scan) (w : List ℕ) → Read st w → complete st ≡ true → Numbered w
-ending Bad w r e = absurd (false≢true e)
-ending Opening w r e = absurd (false≢true e)
-ending (Comma p) w r e = absurd (false≢true e)
-ending (In p v) w r e =
+ending : (o : Option Scan) (w : List ℕ) → Read o w → all_complete o ≡ true → Numbered w
+ending None w r e = absurd (false≢true e)
+ending (Some Opening) w r e = absurd (false≢true e)
+ending (Some (Comma p)) w r e = absurd (false≢true e)
+ending (Some (In p v)) w r e =
     let f = finished p v w r.0 r.1 in
     record { ns = f.ns; bytes = f.bytes; count = counted f.ns (rw f.phase at e); spelt = f.spelt ∙ append-nil (numbers f.ns) }
 
-pub read_numbered : (w : List ℕ) → complete (run Opening w) ≡ true → Numbered w
-read_numbered w e = ending (run Opening w) w (steps Opening [] w refl) e
+pub read_numbered : (w : List ℕ) → all_complete (run (Some Opening) w) ≡ true → Numbered w
+read_numbered w e = ending (run (Some Opening) w) w (steps (Some Opening) [] w refl) e

@@ -9,7 +9,7 @@ use borrow.Author.Tests.{ne_eqb, le-leb, leb-true}
 use lib.Dec.{leb}
 use lib.ListN.{length, get_or, drop}
 use lib.Seq.{drop-cons}
-use Rattle.std.proofs.Common.{Some}
+use Rattle.std.proofs.Common.{Option, Some, option_and_then}
 use Rattle.std.proofs.lemmas.Bool.{and_parts}
 use Rattle.message.specs.declared.Phase.{Phase}
 use Rattle.message.specs.declared.Scan.{Scan}
@@ -21,10 +21,10 @@ pub digit_bounds : (b : ℕ) → is_digit b ≡ true → (48 ≤ b) × (b ≤ 57
 digit_bounds b e = let p = and_parts (leb 48 b) (leb b 57) e in (leb-true _ _ p.0, leb-true _ _ p.1)
 
 module _ (p : Phase) (v b : ℕ) where
-  pub more_fits : (x y : ℕ) → (v ≡ 0 → ⊥) → x ≡ v → y ≡ b - 48 → x * 10 + y ≤ 255 → In p (x * 10 + y) ≡ more p v b
+  pub more_fits : (x y : ℕ) → (v ≡ 0 → ⊥) → x ≡ v → y ≡ b - 48 → x * 10 + y ≤ 255 → Some (In p (x * 10 + y)) ≡ more p v b
   more_fits x y z e f h = rw (ne_eqb v 0 z, sym e, sym f, le-leb (x * 10 + y) 255 h)
 
-  pub in_digit : (st : Scan) → (b ≡ 44 → ⊥) → is_digit b ≡ true → st ≡ more p v b → st ≡ scan (In p v) b
+  pub in_digit : (st : Option Scan) → (b ≡ 44 → ⊥) → is_digit b ≡ true → st ≡ more p v b → st ≡ scan (In p v) b
   in_digit st z e f = rw (ne_eqb b 44 z, e) f
 
 -- where the numbers may end and CR LF follows, they end
@@ -33,5 +33,6 @@ module _ (st : Scan) (k : ℕ) (s : List ℕ) where
   ends_here_law e f = rw (e, f)
 
 module _ (st : Scan) (k : ℕ) (s : List ℕ) (i : ℕ) where
-  pub numbers_next : i < length s → (get_or s i 0 ≡ 13 → ⊥) → (next : Scan) → next ≡ scan st (get_or s i 0) → numbers_from st k (drop i s) ≡ numbers_from next (k + 1) (drop (i + 1) s)
+  pub numbers_next : i < length s → (get_or s i 0 ≡ 13 → ⊥) → (next : Option Scan) → next ≡ scan st (get_or s i 0)
+      → numbers_from st k (drop i s) ≡ option_and_then (λ x. numbers_from x (k + 1) (drop (i + 1) s)) next
   numbers_next h e next f = rw (drop-cons s i 0 h, ne_eqb (get_or s i 0) 13 e, f, add-one k, add-one i)

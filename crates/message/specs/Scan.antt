@@ -1,47 +1,44 @@
 -- A message looked for byte by byte: the definition that computes what `Find` says.
-use Rattle.std.specs.Prelude.{ℕ, suc, ◌+◌, ◌*◌, ◌-◌, Bool, true, false, cond, ◌&&◌, Option, Some, None, List, [], ◌∷◌, ◌++◌, eqb, leb, drop}
+use Rattle.std.specs.Prelude.{ℕ, suc, ◌+◌, ◌*◌, ◌-◌, Bool, true, false, cond, ◌&&◌, Option, Some, None, option_map, option_and_then, List, [], ◌∷◌, ◌++◌, eqb, leb, drop}
 use Rattle.std.specs.Bool.{then_some}
+use Rattle.std.specs.Option.{option_map_or}
 use Rattle.message.specs.declared.Phase.{Phase}
-use Rattle.message.specs.declared.Phase.TheVariants.{First, Second, Rest, Over}
+use Rattle.message.specs.declared.Phase.TheVariants.{First, Second, Rest}
 use Rattle.message.specs.declared.Scan.{Scan}
-use Rattle.message.specs.declared.Scan.TheVariants.{Bad, Opening, Comma, In}
+use Rattle.message.specs.declared.Scan.TheVariants.{Opening, Comma, In}
 use Rattle.message.specs.declared.Place.{Place}
 use Rattle.message.specs.Message.{crlf, mark}
 
--- a number that ends: the second says how many have to come
-abbrev pub ended : Phase → ℕ → Phase
-ended First v = Second
-ended Second v = Rest v
-ended (Rest n) v = cond (eqb n 0) Over (Rest (n - 1))
-ended Over v = Over
+-- a number that ends: the second says how many have to come, and none comes after those
+abbrev pub ended : Phase → ℕ → Option Phase
+ended First v = Some Second
+ended Second v = Some (Rest v)
+ended (Rest n) v = cond (eqb n 0) None (Some (Rest (n - 1)))
 
 -- as many came as the second said
 abbrev pub whole : Phase → Bool
 whole First = false
 whole Second = false
 whole (Rest n) = eqb n 0
-whole Over = false
 
 abbrev pub is_digit : ℕ → Bool
 is_digit b = leb 48 b && leb b 57
 
 -- one digit more, unless it follows a leading zero or makes the number too large
-abbrev pub more : Phase → ℕ → ℕ → Scan
-more p v b = cond (eqb v 0) Bad (cond (leb (v * 10 + (b - 48)) 255) (In p (v * 10 + (b - 48))) Bad)
+abbrev pub more : Phase → ℕ → ℕ → Option Scan
+more p v b = cond (eqb v 0) None (cond (leb (v * 10 + (b - 48)) 255) (Some (In p (v * 10 + (b - 48)))) None)
 
--- one byte more
-abbrev pub scan : Scan → ℕ → Scan
-scan Bad b = Bad
-scan Opening b = cond (eqb b 44) (Comma First) Bad
-scan (Comma p) b = cond (is_digit b) (In p (b - 48)) Bad
-scan (In p v) b = cond (eqb b 44) (Comma (ended p v)) (cond (is_digit b) (more p v b) Bad)
+-- one byte more, if the bytes may be the numbers of a message still
+abbrev pub scan : Scan → ℕ → Option Scan
+scan Opening b = cond (eqb b 44) (Some (Comma First)) None
+scan (Comma p) b = cond (is_digit b) (Some (In p (b - 48))) None
+scan (In p v) b = cond (eqb b 44) (option_map Comma (ended p v)) (cond (is_digit b) (more p v b) None)
 
 -- the numbers may end here
 abbrev pub complete : Scan → Bool
-complete Bad = false
 complete Opening = false
 complete (Comma p) = false
-complete (In p v) = whole (ended p v)
+complete (In p v) = option_map_or whole (ended p v) false
 
 abbrev pub prefix : List ℕ → List ℕ → Bool
 prefix [] s = true
@@ -55,7 +52,7 @@ ends_here st k s = then_some (prefix crlf s && complete st) k
 -- how many bytes the numbers take, up to a CR LF, of which k are read; none where they are not those of a message
 abbrev pub numbers_from : Scan → ℕ → List ℕ → Option ℕ
 numbers_from st k [] = None
-numbers_from st k (b ∷ s) = cond (eqb b 13) (ends_here st k (b ∷ s)) (numbers_from (scan st b) (suc k) s)
+numbers_from st k (b ∷ s) = cond (eqb b 13) (ends_here st k (b ∷ s)) (option_and_then (λ x. numbers_from x (suc k) s) (scan st b))
 
 -- the numbers of the message that begins with the first byte, if one does
 abbrev pub message_at : List ℕ → Option ℕ

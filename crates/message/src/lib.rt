@@ -7,27 +7,24 @@ ghost use Rattle.message.specs.Made.{made_count, Made, Put};
 ghost use Rattle.message.specs.Scan.{ended, whole, more, scan, complete, numbers_from, ends_here, message_at};
 ghost use Rattle.message.specs.Located.{Located, HandsBack};
 
-// How many of the numbers of a message are read: none, the id, or also the second, which says how many have to come yet. Over:
-// more came than it said.
+// How many of the numbers of a message are read: none, the id, or also the second, which says how many have to come yet.
 #[derive(Clone, Copy)]
 pub enum Phase {
     First,
     Second,
     Rest(u8),
-    Over,
 }
 
 impl Phase {
-    // What has to come after a number of this value has ended.
-    fn ended(self, v: u8) -> Phase
+    // What has to come after a number of this value has ended; nothing where that is one more than the second said.
+    fn ended(self, v: u8) -> Option<Phase>
         ensures { result ≡ ended self v }
     {
         match self {
-            Phase::First => Phase::Second,
-            Phase::Second => Phase::Rest(v),
-            Phase::Rest(0) => Phase::Over,
-            Phase::Rest(n) => Phase::Rest(n - 1),
-            Phase::Over => Phase::Over,
+            Phase::First => Some(Phase::Second),
+            Phase::Second => Some(Phase::Rest(v)),
+            Phase::Rest(0) => None,
+            Phase::Rest(n) => Some(Phase::Rest(n - 1)),
         }
     }
 
@@ -38,42 +35,41 @@ impl Phase {
         matches!(self, Phase::Rest(0))
     }
 
-    // One digit more of a number that is begun, of this value so far.
-    fn more(self, v: u8, b: u8) -> Scan
+    // One digit more of a number that is begun, of this value so far, if it is a number still.
+    fn more(self, v: u8, b: u8) -> Option<Scan>
         requires { (48 ≤ b) × (b ≤ 57) }
         ensures { result ≡ more self v b }
     {
         if v == 0 {
-            return Scan::Bad;
+            return None;
         }
         match u8::try_from(u16::from(v) * 10 + u16::from(b - b'0')) {
-            Ok(n) => Scan::In(self, n),
-            Err(_) => Scan::Bad,
+            Ok(n) => Some(Scan::In(self, n)),
+            Err(_) => None,
         }
     }
 }
 
 // How far the numbers of a message are read, byte by byte. Opening: a comma has to come. Comma: a digit has to come. In: in a
-// number, of this value so far. Bad: not the numbers of a message.
+// number, of this value so far.
 #[derive(Clone, Copy)]
 pub enum Scan {
-    Bad,
     Opening,
     Comma(Phase),
     In(Phase, u8),
 }
 
 impl Scan {
-    // One byte more of what has to be the numbers of a message.
-    fn next(self, b: u8) -> Scan
+    // One byte more of what has to be the numbers of a message, if it is still.
+    fn next(self, b: u8) -> Option<Scan>
         ensures { result ≡ scan self b }
     {
         match self {
-            Scan::Opening if b == b',' => Scan::Comma(Phase::First),
-            Scan::Comma(p) if b.is_ascii_digit() => Scan::In(p, b - b'0'),
-            Scan::In(p, v) if b == b',' => Scan::Comma(p.ended(v)),
+            Scan::Opening if b == b',' => Some(Scan::Comma(Phase::First)),
+            Scan::Comma(p) if b.is_ascii_digit() => Some(Scan::In(p, b - b'0')),
+            Scan::In(p, v) if b == b',' => p.ended(v).map(Scan::Comma),
             Scan::In(p, v) if b.is_ascii_digit() => p.more(v, b),
-            _ => Scan::Bad,
+            _ => None,
         }
     }
 
@@ -81,7 +77,7 @@ impl Scan {
     fn is_complete(self) -> bool
         ensures { result ≡ complete self }
     {
-        matches!(self, Scan::In(p, v) if p.ended(v).is_whole())
+        matches!(self, Scan::In(p, v) if p.ended(v).is_some_and(Phase::is_whole))
     }
 }
 
@@ -195,7 +191,7 @@ fn numbers_at(s: &[u8]) -> Option<usize>
         if *b == b'\r' {
             return ends_at(&s[k..], st, k);
         }
-        st = st.next(*b);
+        st = st.next(*b)?;
     }
     None
 }
