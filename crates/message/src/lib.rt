@@ -43,10 +43,8 @@ impl Phase {
         if v == 0 {
             return None;
         }
-        match u8::try_from(u16::from(v) * 10 + u16::from(b - b'0')) {
-            Ok(n) => Some(Scan::In(self, n)),
-            Err(_) => None,
-        }
+        let n = v.checked_mul(10)?.checked_add(b - b'0')?;
+        Some(Scan::In(self, n))
     }
 }
 
@@ -92,6 +90,7 @@ pub struct Place {
 const MARK: [u8; 4] = *b"-.TC";
 
 // How many digits a number has.
+// By ranges, as `digits` has them: `ilog10` answers nothing for 0, so that it would be no plainer.
 #[tactic(auto, unfolding(crate::specs::Message::digits))]
 fn width(n: u8) -> usize
     ensures { result ≡ length (digits n) }
@@ -115,6 +114,7 @@ pub fn put(word: &[u8], out: &mut [u8], at: usize) -> usize
 }
 
 // A mark and the digits of a number from `at` in `out`. Gives the place after them.
+// Digits by hand: std promises the bytes that `write!` writes for a `String` alone, and the box has no heap.
 #[tactic(auto, unfolding(crate::specs::Message::digits))]
 fn put_number(mark: u8, n: u8, out: &mut [u8], at: usize) -> usize
     requires { at + length (mark ∷ digits n) ≤ length out.old }
