@@ -18,10 +18,6 @@ pub two_digits : (n : ℕ) → 10 ≤ n → n < 100 → digits n ≡ digit (n / 
 unfolding digits
 two_digits n l h = rw (le-ltb n 10 l, lt-ltb n 100 h)
 
-pub three_digits : (n : ℕ) → 100 ≤ n → digits n ≡ digit (n / 100) ∷ digit (n / 10 % 10) ∷ digit (n % 10) ∷ []
-unfolding digits
-three_digits n l = let k : 10 ≤ n = omega arith in rw (le-ltb n 10 k, le-ltb n 100 l)
-
 -- at most three
 pub digits_few : (n : ℕ) → length (digits n) ≤ 3
 unfolding digits
