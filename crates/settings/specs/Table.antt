@@ -1,5 +1,6 @@
 -- The table of ids: parameters, ranges and factory values.
 use Rattle.std.specs.Prelude.{ℕ, suc, Bool, true, false, cond, ◌&&◌, ◌||◌, List, [], ◌∷◌, eqb, leb, length, get_or, take, Some, None}
+-- std's Option goes by `Maybe` here: `Option` is the record of a setting below
 use Rattle.std.specs.Prelude.{Option as Maybe}
 use Rattle.code.specs.Convert.{conversion}
 use Rattle.word.specs.Word.{all_below, unpacked, packed, is_word}

@@ -1,28 +1,11 @@
 // The numbers of an answer.
-ghost use Rattle.std.specs.Prelude.{◌≡◌, get_or};
+ghost use Rattle.std.specs.Prelude.{◌≡◌};
 ghost use Rattle.settings.specs.Command.{answering, numbers_at, reading, outcome};
 
 use crate::numbers::Numbers;
+use crate::store::at;
 use crate::table::row;
-use crate::{Calling, Home, Outcome, Row, Settings, Stored};
-
-impl Settings {
-    // The value at a place.
-    fn value_at(self, place: u8) -> u8
-        ensures { result ≡ get_or self.values place 0 }
-    {
-        self.values.get(place as usize).copied().unwrap_or(0)
-    }
-}
-
-impl Calling {
-    // The word of the string at a place.
-    fn string_at(self, place: u8) -> u64
-        ensures { result ≡ get_or self.strings place 0 }
-    {
-        self.strings.get(place as usize).copied().unwrap_or(0)
-    }
-}
+use crate::{Home, Outcome, Row, Stored};
 
 impl Stored {
     // The numbers of a row: the id, how many values it has, and the values.
@@ -33,10 +16,16 @@ impl Stored {
         match r.home {
             Home::Version => Numbers::of(id, [0, 0, 1, 0]),
             Home::Linked(_) => Numbers::of(id, [self.connection.port, self.connection.speed]),
-            Home::Value(place, _, _) => Numbers::of(id, [self.settings.value_at(place)]),
+            Home::Value(place, _, _) => Numbers::of(
+                id,
+                [at(self.settings.values, usize::from(place), 0)],
+            ),
             Home::String => Numbers::of(id, word::unpack(self.settings.string)),
             Home::Power => Numbers::of(id, [self.calling.power]),
-            Home::Signal(place) => Numbers::of(id, word::unpack(self.calling.string_at(place))),
+            Home::Signal(place) => Numbers::of(
+                id,
+                word::unpack(at(self.calling.strings, usize::from(place), 0)),
+            ),
             Home::Unlinked | Home::Factory | Home::Nowhere => Numbers::of(id, []),
         }
     }

@@ -1,8 +1,9 @@
 // What is wrong with a command: the first error that applies.
-ghost use Rattle.std.specs.Prelude.{◌≡◌, ◌%◌, get_or, take, drop};
+ghost use Rattle.std.specs.Prelude.{◌≡◌, ◌%◌, take, drop};
 ghost use Rattle.settings.specs.Command.{sum, checked, fitting, ranged, fault_in, fault_of, together, jointly, number_of, obey};
 
 use crate::sound::is_stand_in;
+use crate::store::at;
 use crate::{Fault, Row, Setup};
 use command::Verb;
 
@@ -25,13 +26,6 @@ fn by_number(bytes: [u8; 8]) -> [u8; 8]
 }
 
 impl Command {
-    // The field at a place; 0 where there is none.
-    fn field(self, place: usize) -> u8
-        ensures { result ≡ get_or self.fields place 0 }
-    {
-        self.fields.get(place).copied().unwrap_or(0)
-    }
-
     // The sum of the first n fields, modulo 256.
     fn checksum(self, n: usize) -> u8
         ensures { result ≡ sum (take n self.fields) % 256 }
@@ -46,16 +40,16 @@ impl Command {
     fn is_checked(self, n: u8) -> bool
         ensures { result ≡ checked n self.count self.fields }
     {
-        let k = n as usize + 2;
-        self.count as usize == k || self.checksum(k) == self.field(k)
+        let k = usize::from(n) + 2;
+        usize::from(self.count) == k || self.checksum(k) == at(self.fields, k, 0)
     }
 
     // Whether the number field is n, and the parameters are that many or one more.
     fn is_fitting(self, n: u8) -> bool
         ensures { result ≡ fitting n self.count self.fields }
     {
-        let k = n as usize;
-        let c = self.count as usize;
+        let k = usize::from(n);
+        let c = usize::from(self.count);
         (self.fields[1] == n) & ((c == k + 2) | (c == k + 3))
     }
 

@@ -30,14 +30,14 @@ pub struct Settings {
 #[derive(Clone, Copy)]
 pub struct Calling {
     pub strings: [u64; 5],
-    // stays a number: a state may hold any byte here, and one that is no mode is handed back as it came (answer 3; `power` of spelling)
+    // It stays a number: a state may hold any byte, and one that is no mode is handed back as it came (answer 3; `calling_of` of spelling).
     pub power: u8,
 }
 
 // The connection: its mode, which is the id that writes it, and its port and speed, 0 where the mode has none.
 #[derive(Clone, Copy)]
 pub struct Connection {
-    // stays a number: a state may hold any byte here, and one that is no mode is handed back as it came (answer 3; `state_of` of spelling)
+    // It stays a number: a state may hold any byte, and one that is no mode is handed back as it came (answer 3; `state_of` of spelling).
     pub mode: u8,
     pub port: u8,
     pub speed: u8,
@@ -54,6 +54,7 @@ pub struct Setup {
 // Where the values of an id are, and their range: the version, a connection with a port up to the last and a speed or with neither, an
 // option's place with its least and its greatest value, string 90, the motor power mode, one of strings 91 to 95 by its place, all to
 // factory, or nowhere.
+// `Nowhere` stays a case and no `None`: `row` answers for every id, and laws speak of the home that it gives (`defined`).
 #[derive(Clone, Copy)]
 pub enum Home {
     Version,

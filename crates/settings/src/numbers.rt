@@ -3,7 +3,7 @@ ghost use Rattle.std.specs.Prelude.{◌≡◌, ◌≤◌, ◌∷◌};
 
 use std::marker::Model;
 
-// At most ten numbers; the places after them hold 0.
+// At most ten numbers; the places after them hold 0. An array and a length, seen as a list: the box has no heap.
 #[derive(Clone, Copy)]
 pub struct Numbers {
     places: [u8; 10],

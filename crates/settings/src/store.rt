@@ -1,5 +1,5 @@
 // What a write stores.
-ghost use Rattle.std.specs.Prelude.{◌≡◌, take, drop, set};
+ghost use Rattle.std.specs.Prelude.{◌≡◌, get_or, take, drop, set};
 ghost use Rattle.word.specs.Word.{packed};
 ghost use Rattle.settings.specs.Options.{stand_in};
 ghost use Rattle.settings.specs.Table.{factory, factory_calling};
@@ -10,12 +10,20 @@ use crate::table::first_eight;
 use crate::{Calling, Connection, Home, Settings, Setup, Stored, factory, factory_calling};
 use command::Verb;
 
+// What is at a place of an array, or what is handed in for none where there is no such place.
+pub(crate) fn at<T: Copy, const N: usize>(xs: [T; N], place: usize, none: T) -> T
+    ensures { result ≡ get_or xs place none }
+{
+    xs.get(place).copied().unwrap_or(none)
+}
+
 // An array with what is at a place changed, if there is such a place.
 // `if let Some(y) = xs.get_mut(i)` does not prove: what `get_mut` promises says nothing of the array afterwards.
+// `Field::holding` of command has these lines too: it is no plainer to change the settings' arrays by a function of the command reader.
 fn changed<T: Copy, const N: usize>(mut xs: [T; N], place: u8, x: T) -> [T; N]
     ensures { result ≡ set xs place x }
 {
-    let i = place as usize;
+    let i = usize::from(place);
     if i < N {
         xs[i] = x;
     }

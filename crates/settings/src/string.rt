@@ -11,6 +11,7 @@ fn all_codes(s: [u8; 8]) -> bool
 }
 
 // Whether all after the first 0 are 0: nothing is left of the word there.
+// It is a loop over the number, as `opens` is, for the reason beside that.
 fn padded(n: u64) -> bool
     requires { n < 1099511627776 }
     ensures { result ≡ padded (unpacked n) }
