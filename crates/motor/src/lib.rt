@@ -97,7 +97,9 @@ impl Listener {
         self.hears(place) & (size(self.calling.strings[place]) <= n)
     }
 
-    // Whether a motor that is off starts: by the motor power mode, and n codes after the first string 93 that counts, 0 where there is none.
+    // Whether a motor that is off starts: by the motor power mode, n codes after the first string 93 that counts.
+    // 0 stands for no such string, since `starts` of Motor.antt has it so, and no string comes within 0 codes.
+    // The modes stay the paper's numbers of id 53: `starts` has them so, and a state that is not sound holds any byte there.
     fn starts(self, n: u8) -> bool
         ensures { result ≡ starts self.calling self.heard n }
     {
