@@ -82,6 +82,7 @@ impl Record {
     }
 
     // The codes of a string's word as an ending, up to the first 0.
+    // `&mut out[count..]` and no slice that shrinks, as in `send`: the count is handed back in any case.
     pub(crate) fn put_ending(self, o: Settings, string: u64, out: &mut [u8]) -> Noted<Record>
         requires { length (ending_of o self (until_zero (unpacked string))) ≤ length out.old }
         ensures { Notes o self (ending_of o self (until_zero (unpacked string))) out.old out.new result }

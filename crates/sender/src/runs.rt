@@ -14,6 +14,7 @@ use settings::Settings;
 const MOST: usize = 18;
 
 // What a byte of text is on the line by the table lent: its own code, or where it has none the stand-in's, unless option 77 is 0.
+// `Tabled` of the table is asked here, in `Asks::convert` and by `convert::look_up`, which docs/PROMISES.md names over the bytes lent.
 fn speak(o: Settings, table: &[u8], b: u8) -> Conversion
     requires { Tabled table.now }
     ensures { result ≡ spoken o b }
@@ -103,6 +104,7 @@ impl Sender {
 }
 
 // The bytes one after the other, at the front of the buffer, up to one that stops them and while any byte's codes have room.
+// `&mut out[count..]` and no slice that shrinks: the count is handed back in any case, so one that shrinks would be a second beside it.
 pub fn send(
     o: Settings,
     start: Sender,
