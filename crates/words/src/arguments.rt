@@ -40,7 +40,8 @@ fn numbered(s: &[u8]) -> Option<Setting>
     stop.or(number_after(s, b"place=").map(Setting::Place))
 }
 
-// What an argument says, if it is one. A `match` over these eight was tried: its default arm, with a case for each byte that may differ, wasn't proved.
+// What an argument says, if it is one.
+// A `match` over these eight was tried: its default arm, with a case for each byte that may differ, wasn't proved.
 pub fn setting(s: &[u8]) -> Option<Setting>
     ensures { result ≡ setting_of s.now }
 {

@@ -1,5 +1,5 @@
-// Reads the arguments, and the words of a record, a byte at a time: codes in decimal with white space between, or a log sheet, where `line` stands
-// before them and `host` ends them.
+// Reads the arguments, and the words of a record, a byte at a time: codes in decimal with white space between, or a log sheet, where
+// `line` stands before them and `host` ends them.
 #![tactic(auto)]
 
 ghost use Rattle.std.specs.Prelude.{◌≡◌, ◌<◌, IfSome};
@@ -7,7 +7,7 @@ ghost use Rattle.words.specs.Words.{white, value, two_digits, word_of, word_held
 
 pub mod arguments;
 
-// What an argument says.
+// What an argument says, a case for each by its name: with an Option and three bools, `told` of paper would read true and false for names.
 #[derive(Clone, Copy)]
 pub enum Setting {
     Stop(u8),
