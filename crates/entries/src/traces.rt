@@ -54,6 +54,7 @@ pub fn prepared(b: Start) -> Ran
     }
 }
 
+// Three functions and no table: each has a name and a definition of its own (`form_taken`, `form_first`, `form_second`).
 impl Form {
     // How the text of a vector has what a stream takes.
     pub fn taken(t: Stream) -> Form

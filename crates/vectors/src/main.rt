@@ -11,7 +11,7 @@ ghost use Rattle.std.specs.Prelude.{◌≤◌, length};
 use entries::tables::{Entry, run_entry};
 use entries::text::{Form, after_bar, before_bar, byte_at, decode, front};
 use entries::traces::{Ran, Start, judged, prepared, ready};
-use linebox::Called;
+use linebox::{Answer, Called};
 use std::io;
 use std::io::Read;
 use step::Stream;
@@ -84,18 +84,15 @@ fn print_shown(rt: &impl Print, form: Form, s: &[u8]) -> io::Result<()> {
 
 // A call's answer and the count it took are those of a text, or all that was left where the text is empty.
 fn is_ended(c: Called, left: usize, text: &[u8]) -> bool {
-    let number = u32::from(c.answer);
     if text.is_empty() {
-        return number == 0 && c.taken == left;
+        return matches!(c.answer, Answer::All) && c.taken == left;
     }
-    is_shown(
-        Form::Decimal,
-        &[(number % 256) as u8, (c.taken % 256) as u8],
-        text,
-    )
+    let number = (u32::from(c.answer) % 256) as u8;
+    is_shown(Form::Decimal, &[number, (c.taken % 256) as u8], text)
 }
 
 // A call of a stream that lends the rooms asked for.
+// By the stream and not by a type that takes it (linebox's `Input`): the stream of such a type is ghost, and the forms need it as a value.
 fn call(t: Stream, b: Start, input: &[u8], one: &mut [u8; 255], two: &mut [u8; 255]) -> Called {
     let from = usize::from(b.from);
     let first = &mut one[..usize::from(b.first)];
@@ -190,7 +187,8 @@ impl Tallies {
     }
 }
 
-// Reads until the buffer is full or the input ends or fails, and gives how many bytes came.
+// Reads until the buffer is full or the input ends or fails, and gives how many bytes came. The count is by hand: `read_exact` fails where
+// the input ends early and tells no count, and `read_to_end` takes a Vec, which has no limit.
 fn read_full(input: &mut impl Read, s: &mut [u8]) -> usize
     ensures { result ≤ length s.new }
 {
