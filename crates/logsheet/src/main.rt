@@ -3,8 +3,8 @@
 #![tactic(auto)]
 
 use std::env::{Env, FillError};
-use std::io;
 use std::io::Read;
+use std::{fmt, io};
 use step::State;
 
 // What stopped the sheet.
@@ -12,6 +12,16 @@ use step::State;
 enum Failure {
     NotRead(io::Error),
     NotWritten(io::Error),
+}
+
+impl fmt::Display for Failure {
+    // Which of the two it was, and why.
+    fn fmt<W: fmt::Write>(&self, f: &mut fmt::Formatter<W>) -> fmt::Result {
+        match self {
+            Failure::NotRead(e) => write!(f, "standard input: {e}"),
+            Failure::NotWritten(e) => write!(f, "standard output: {e}"),
+        }
+    }
 }
 
 // The box, and how many bytes went to the host.
@@ -84,8 +94,7 @@ fn print_sheet(rt: &(impl Print + Eprint), input: &mut impl Read) {
     let _ = println!(rt);
     let _ = match told {
         Ok(()) => println!(rt; "host {}", sheet.host),
-        Err(Failure::NotRead(e)) => eprintln!(rt; "standard input: {e}"),
-        Err(Failure::NotWritten(e)) => eprintln!(rt; "standard output: {e}"),
+        Err(e) => eprintln!(rt; "{e}"),
     };
 }
 
