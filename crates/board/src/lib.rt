@@ -9,6 +9,7 @@ ghost use Rattle.spelling.specs.Spelling.{spelt, state_of};
 ghost use Rattle.board.specs.Calls.{Boarded, spells_sound};
 ghost use Rattle.board.specs.Finds.{Finds};
 
+use linebox::Answer;
 use linebox::calls::{HostBytes, Input, LineCodes, TuCodes};
 use spelling::load::{is_spelling, state_of};
 use spelling::save::save;
@@ -36,7 +37,7 @@ fn call<T: Input>(
 {
     let Some(s) = open_state(state) else {
         *done = [0; 3];
-        return 3;
+        return u32::from(Answer::Unsound);
     };
     let c = T::take(s, input, first, second);
     save(c.state, state);

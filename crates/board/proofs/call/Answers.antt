@@ -13,4 +13,4 @@ pub returns : goal.returns
 returns g c =
     let a = c.args in
     let o = opened a.state.now c.in-Some.s (sym c.in-Some.is ∙ c.open_state.ensures) in
-    rw (c.save.ensures, c.from.ensures) (boarded g.T.Input.stream a.state.now a.input.now _ _ a.first.now a.second.now _ _ c.take-c.result o.0 (rw o.1 at c.take-c.ensures))
+    rw (c.save.ensures, c.from-2.ensures) (boarded g.T.Input.stream a.state.now a.input.now _ _ a.first.now a.second.now _ _ c.take-c.result o.0 (rw o.1 at c.take-c.ensures))
