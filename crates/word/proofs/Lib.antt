@@ -1,4 +1,3 @@
 pub mod Words
 pub mod Packs
 pub mod Bytes
-pub mod Unpacks

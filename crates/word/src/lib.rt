@@ -25,11 +25,17 @@ pub fn pack(cs: [u8; 8]) -> u64
     n
 }
 
-// The eight codes of a word.
+// The eight codes of a word. Not by a shift that a variable counts: for one of 64 bits a board would have to supply a function that
+// include/linebox.h does not name.
 pub fn unpack(n: u64) -> [u8; 8]
     ensures { result ≡ unpacked n }
 {
-    array::from_fn(|i| ((n >> (5 * i)) % 32) as u8)
+    let mut rest = n;
+    array::from_fn(|_| {
+        let c = (rest % 32) as u8;
+        rest /= 32;
+        c
+    })
 }
 
 // Whether the upper bits are zero.
