@@ -186,4 +186,14 @@ uint64_t __aeabi_lmul(uint64_t a, uint64_t b) {
   return (uint64_t)high << 32 | second << 16 | (low & 0xFFFF);
 }
 
+/* A shift that a variable counts, for the tests' own lines: the archive needs none, which tests/targets/run sees. */
+uint64_t __aeabi_llsr(uint64_t a, int by) {
+  uint32_t low = (uint32_t)a, high = (uint32_t)(a >> 32);
+  for (; by > 0; by--) {
+    low = low >> 1 | high << 31;
+    high >>= 1;
+  }
+  return (uint64_t)high << 32 | low;
+}
+
 #endif
