@@ -1,24 +1,22 @@
 -- The loops over a word: what is left of it after some of its codes stands for what is asked of the whole.
 -- Assumes nothing.
-use Prim.Native.Nat.{ℕ, zero, suc, ◌+◌, ◌-◌, ◌*◌, ◌/◌, ◌^◌, ◌<◌, ◌≤◌}
-use mathlib.Core.Path.{◌≡◌, ap, ◌∙◌}
+use Prim.Native.Nat.{ℕ, suc, ◌+◌, ◌-◌, ◌/◌, ◌<◌, ◌≤◌}
+use mathlib.Core.Path.{◌≡◌, refl, sym, ap, ◌∙◌}
 use native.Mathlib.Omega.{arith}
-use native.Mathlib.Nat.{div-one, div-div-eq-div-mul}
-use Rattle.std.proofs.Common.{pow-add}
 use borrow.Author.Tests.{eq-eqb, ne_eqb}
 use Rattle.motor.specs.Motor.{without, latest, size_in, size}
 
--- The codes heard without the oldest are so many fives of bits further down.
+-- What is left of the codes heard, from the oldest on.
 
-without_shifted : (k heard : ℕ) → heard / 2 ^ (5 * k) ≡ without k heard
-without_shifted zero heard = div-one heard
-without_shifted (suc k) heard =
-    let e : 5 * suc k ≡ 5 + 5 * k = omega arith in
-    rw (e, pow-add, ← div-div-eq-div-mul) (without_shifted k (heard / 32))
-
-pub latest_shifted : (n heard : ℕ) → heard / 2 ^ (5 * (8 - n)) ≡ latest n heard
+pub all_heard : (n heard : ℕ) → latest n heard ≡ without (8 - n) heard
 unfolding latest
-latest_shifted n heard = without_shifted (8 - n) heard
+all_heard n heard = refl
+
+pub fewer_heard : (x i rest : ℕ) → i < 8 → x ≡ without (8 - i) rest → x ≡ without (8 - (i + 1)) (rest / 32)
+fewer_heard x i rest h e = let s : 8 - i ≡ suc (8 - (i + 1)) = omega arith in e ∙ ap (λ (j : ℕ). without j rest) s
+
+pub last_heard : (x i rest : ℕ) → 8 ≤ i → x ≡ without (8 - i) rest → rest ≡ x
+last_heard x i rest h e = let s : 8 - i ≡ 0 = omega arith in sym (e ∙ ap (λ (j : ℕ). without j rest) s)
 
 -- The codes of a string that are counted, and those that are left.
 

@@ -60,10 +60,15 @@ fn size(string: u64) -> u8
 }
 
 // The last n of the codes heard, at most eight.
+// Not by a shift that a variable counts: `word::unpack` says why.
 fn latest(heard: u64, n: u8) -> u64
     ensures { result ≡ latest n heard }
 {
-    heard >> (5 * 8u8.saturating_sub(n))
+    let mut rest = heard;
+    for _ in n..8 {
+        rest /= 32;
+    }
+    rest
 }
 
 // Whether the last codes heard are a string's; an empty string never matches.

@@ -25,8 +25,8 @@ pub fn pack(cs: [u8; 8]) -> u64
     n
 }
 
-// The eight codes of a word. Not by a shift that a variable counts: for one of 64 bits a board would have to supply a function that
-// include/linebox.h does not name.
+// The eight codes of a word.
+// Not by a shift that a variable counts: for one of 64 bits a board would have to supply a function that include/linebox.h does not name.
 pub fn unpack(n: u64) -> [u8; 8]
     ensures { result ≡ unpacked n }
 {
