@@ -31,7 +31,7 @@
  *   needed on every target:              memcpy memmove memset
  *   needed on armv7 and thumbv6m, SIZE:  __aeabi_uidiv __aeabi_uidivmod
  *
- * On Thumb (v7-M) the archive takes 19.6 kB of program memory if made for SIZE, and 33.8 kB for SPEED, and a call takes at most 2,900
+ * On Thumb (v7-M) the archive takes 19.5 kB of program memory if made for SIZE, and 33.6 kB for SPEED, and a call takes at most 2,900
  * bytes of stack beside those of the functions above (SPEED: 2,100; v6-M: 3,100 and 2,200). `benchmark/size` measures both.
  *
  * With 53 at 2, 4, 5 or 6 the box listens for strings 91 to 95 in the codes asked for on ports 1 to 3. With the message
