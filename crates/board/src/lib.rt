@@ -25,7 +25,8 @@ fn open_state(b: &[u8; 128]) -> Option<State>
     (is_spelling(b, state) & is_sound(state)).then_some(state)
 }
 
-// A call of any stream: answer 3, and nothing changed, where the state's bytes are not the spelling of a sound one.
+// A call of any stream: answer 3, and nothing changed, where the state's bytes are not the spelling of a sound one. Its parameters are
+// those of the C interface (include/linebox.h).
 fn call<T: Input>(
     state: &mut [u8; 128],
     input: &[u8],

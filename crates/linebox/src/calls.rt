@@ -13,7 +13,8 @@ use step::sends::put_tu;
 use step::soundness::is_sound;
 
 // How the bytes of a stream are taken: from a sound state, as many as have room in the two lent buffers. `sound` stays a clause and
-// the buffers stay apart: a struct would have to be made anew of each turn's state, and `Calls` and `Runs` name each buffer.
+// the buffers stay apart: a struct would have to be made anew of each turn's state, and `Calls` and `Runs` name each buffer. The free part
+// is lent by the count, as in `sender::runs::send`, since the count is handed back in any case.
 pub trait Input {
     ghost stream: { Stream };
 

@@ -1,6 +1,6 @@
-// Runs of plain bytes, written straight into the free part of the line buffer: text or TU codes whose route is to the printer, while nothing
-// is heard. Text and codes have each their own: what stops a run, the state after it and the test before it differ, and one function for both
-// would take all three from its caller.
+// Runs of plain bytes, written straight into the free part of the line buffer: text or TU codes whose route is to the printer, while
+// nothing is heard. Text and codes have each their own: what stops a run, the state after it and the test before it differ, and one
+// function for both would take all three from its caller.
 ghost use Rattle.std.specs.Prelude.{◌≡◌, true, false};
 ghost use Rattle.linebox.specs.Names.{Host as Names-as-Host, Tu as Names-as-Tu};
 ghost use Rattle.step.specs.State.{sound};

@@ -45,7 +45,7 @@ fn hear_item(k: Calling, m: Motor, x: Conversion) -> Motor
     }
 }
 
-// Two bytes at most heard, as they are asked for.
+// Two bytes at most heard, as they are asked for. The bound stays a clause: `put_asked` of `sends` says why.
 pub fn hear(s: State, asks: Asks, bytes: &[u8]) -> Heard
     requires { length bytes.now ≤ 2 }
     ensures { Hears s (asked_by s.settings asks bytes.now) result }
@@ -81,7 +81,8 @@ fn change_size(before: u8, after: u8) -> usize
 }
 
 // A change told at the front of the host buffer: the message with its two digits, `-.TC,20,2,port,after` framed. It is laid out here, for
-// what is asked for in two places is not compiled into either, and an answer is to be made where the command was read.
+// what is asked for in two places is not compiled into either, and an answer is to be made where the command was read. By `message::make`
+// it would be no plainer: that answers an Option, where the room is known here.
 #[tactic(auto, using(crate::proofs::Hearing::change_long))]
 fn put_change(port: u8, before: u8, after: u8, out: &mut [u8]) -> usize
     requires { (port < 10) × (after < 10) × (length (change port before after) ≤ length out.old) }

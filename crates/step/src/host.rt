@@ -12,7 +12,8 @@ use crate::sends::put_text;
 use crate::{NoRoom, State, Taken};
 use command::{Out, Step};
 
-// The text that the command reader made of a byte: the end of a `/` and a byte, of both where the `/` was held.
+// The text that the command reader made of a byte: the end of a `/` and a byte, of both where the `/` was held. An array and where it
+// begins, since the box has no heap; `text` gives the part.
 #[derive(Clone, Copy)]
 struct Said {
     bytes: [u8; 2],
@@ -44,8 +45,8 @@ impl Said {
     }
 }
 
-// One host byte, by what the command reader made of it, with the parts of the line and host buffers that are free. Text has one place here: what
-// is asked for in two is not compiled into either, and the state would be laid out for it with every command.
+// One host byte, by what the command reader made of it, with the parts of the line and host buffers that are free. Text has one place
+// here: what is asked for in two is not compiled into either, and the state would be laid out for it with every command.
 pub fn put_read(s: State, x: Step, line: &mut [u8], host: &mut [u8]) -> Result<Taken, NoRoom>
     requires { Sound s.settings s.calling s.connection }
     ensures { Offers Names-as-Host (hosted (with_reader s x.reader) s.reader.values x.out) line.old host.old line.new host.new result }

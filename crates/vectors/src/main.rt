@@ -104,7 +104,8 @@ fn call(t: Stream, b: Start, input: &[u8], one: &mut [u8; 255], two: &mut [u8; 2
     }
 }
 
-// `H`, `L` or `T` with the input, the first output and the second: a call of that stream.
+// `H`, `L` or `T` with the input, the first output and the second: a call of that stream. The handle, the start and the text go to three
+// functions, each asked for once: a struct of them would be no plainer.
 fn run_call(rt: &impl Print, t: Stream, b: Start, s: &[u8]) -> Ran {
     let given = after_bar(s);
     let first = after_bar(given);
