@@ -100,7 +100,8 @@ impl Input for LineCodes {
     }
 }
 
-// Codes from the TU. They lend a line and a host buffer.
+// Codes from the TU. They lend a line and a host buffer. Their loop is not that of host bytes: a turn of that has the command reader's run
+// too, and a turn of this a test of the code; one loop for both would be handed either, and be no plainer.
 pub struct TuCodes;
 
 impl Input for TuCodes {

@@ -99,7 +99,7 @@ impl Spelled<1> for Verb {
     }
 }
 
-// What stands in a field: 0 nothing yet, 1 digits, 2 X.
+// What stands in a field: 0 nothing yet, 1 digits, 2 X. No twin of a command's type: each is a table of its own numbers.
 impl Spelled<1> for Form {
     ghost bytes = { λ f. form_byte f ∷ [] };
 
