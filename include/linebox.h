@@ -31,8 +31,8 @@
  *   needed on every target:              memcpy memmove memset
  *   needed on armv7 and thumbv6m, SIZE:  __aeabi_uidiv __aeabi_uidivmod
  *
- * On Thumb (v7-M) the archive takes 19.5 kB of program memory if made for SIZE, and 33.6 kB for SPEED, and a call takes at most 2,900
- * bytes of stack beside those of the functions above (SPEED: 2,100; v6-M: 3,100 and 2,200). `benchmark/size` measures both.
+ * On Thumb (v7-M) the archive takes 18.5 kB of program memory if made for SIZE, and 31.8 kB for SPEED, and a call takes at most 2,700 bytes of
+ * stack beside those of the functions above (SPEED: 2,200; v6-M: 2,800 and 2,600). `benchmark/size` measures both.
  *
  * With 53 at 2, 4, 5 or 6 the box listens for strings 91 to 95 in the codes asked for on ports 1 to 3. With the message
  * `-.TC,20,2,port,1` the motor of that port is to run, with `-.TC,20,2,port,0` to stop. Writing 53, one of these strings or a

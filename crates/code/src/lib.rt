@@ -32,12 +32,16 @@ pub enum Conversion {
     Cased(Case, u8),
 }
 
-// The letters, then the figures. FIGS and LTRS stand as SO and SI.
-const ROWS: [u8; 64] = [
-    0, b'E', 10, b'A', b' ', b'S', b'I', b'U', 13, b'D', b'R', b'J', b'N', b'F', b'C', b'K', b'T',
-    b'Z', b'L', b'W', b'H', b'Y', b'P', b'Q', b'O', b'B', b'G', 14, b'M', b'X', b'V', 15, 0, b'3',
-    10, b'-', b' ', 7, b'8', b'7', 13, b'$', b'4', b'\'', b',', b'!', b':', b'(', b'5', b'"', b')',
-    b'2', b'#', b'6', b'0', b'1', b'9', b'?', b'&', 14, b'.', b'/', b';', 15,
+// Letters, then figures. FIGS and LTRS stand as SO and SI.
+const ROWS: [[u8; 32]; 2] = [
+    [
+        0, b'E', 10, b'A', b' ', b'S', b'I', b'U', 13, b'D', b'R', b'J', b'N', b'F', b'C', b'K',
+        b'T', b'Z', b'L', b'W', b'H', b'Y', b'P', b'Q', b'O', b'B', b'G', 14, b'M', b'X', b'V', 15,
+    ],
+    [
+        0, b'3', 10, b'-', b' ', 7, b'8', b'7', 13, b'$', b'4', b'\'', b',', b'!', b':', b'(',
+        b'5', b'"', b')', b'2', b'#', b'6', b'0', b'1', b'9', b'?', b'&', 14, b'.', b'/', b';', 15,
+    ],
 ];
 
 // The character of a code in a case; over 31 there is none, and it reads as BLANK.
@@ -45,8 +49,8 @@ pub fn row_at(case: Case, c: u8) -> u8
     ensures { result ≡ row_at case c }
 {
     let row = match case {
-        Case::Letters => &ROWS[..32],
-        Case::Figures => &ROWS[32..],
+        Case::Letters => &ROWS[0],
+        Case::Figures => &ROWS[1],
     };
     row.get(usize::from(c)).copied().unwrap_or(0)
 }
@@ -55,7 +59,7 @@ pub fn row_at(case: Case, c: u8) -> u8
 pub fn rows() -> [u8; 64]
     ensures { result ≡ letters ++ figures }
 {
-    ROWS
+    ROWS.as_flattened().try_into().unwrap()
 }
 
 // The kind of a code; over 31 it is as BLANK. 4 is space, 8 is CR, 27 is FIGS, 31 is LTRS, 0 is BLANK and 2 is LF; 5 is S and

@@ -8,7 +8,7 @@ use native.Mathlib.Numerals.{add-one}
 use native.Mathlib.Omega.{arith}
 use lib.ListN.{length-take, length, take, drop, drop_of_length-le, length-drop, length-append}
 use lib.Seq.{drop-nil, drop-cons}
-use Rattle.std.proofs.Common.{Option, Some, None, MatchOption}
+use Rattle.std.proofs.Common.{Option, Some, None, MatchOption, eqb, get_or, false}
 use Rattle.std.proofs.lemmas.Option.{none-some}
 use Rattle.message.specs.declared.Place.{Place}
 use Rattle.message.specs.Message.{numbers, body}
@@ -148,6 +148,10 @@ module _ (s : List ℕ) (i : ℕ) where
 
   pub locate_here : i < length s → (k : ℕ) → message_at (drop i s) ≡ Some k → located_from i (drop i s) ≡ Some (record { start = i + 2; len = 4 + k })
   locate_here h k e = at_cons h ∙ ap (λ (n : Option ℕ). placed i n (located_from (suc i) (drop (suc i) s))) e
+
+  -- what is no CR begins no message
+  pub locate_other : i < length s → eqb (get_or s i 0) 13 ≡ false → message_at (drop i s) ≡ None
+  locate_other h e = rw (drop-cons s i 0 h, e)
 
   pub locate_next : i < length s → message_at (drop i s) ≡ None → located_from i (drop i s) ≡ located_from (i + 1) (drop (i + 1) s)
   locate_next h e = at_cons h ∙ ap (λ (n : Option ℕ). placed i n (located_from (suc i) (drop (suc i) s))) e ∙ rw add-one

@@ -11,10 +11,10 @@ use Rattle.message.specs.Message.{digits, marked, numbers, framed}
 use Rattle.message.proofs.Digits.{digits_few}
 
 module _ (m : ℕ) where
-  next_number : (ns : List ℕ) (i : ℕ) → i < length ns → marked m (drop i ns) ≡ (m ∷ digits (get_or ns i 0)) ++ marked m (drop (i + 1) ns)
+  pub next_number : (ns : List ℕ) (i : ℕ) → i < length ns → marked m (drop i ns) ≡ (m ∷ digits (get_or ns i 0)) ++ marked m (drop (i + 1) ns)
   next_number ns i h = rw (drop-cons ns i 0 h, add-one)
 
-  next_length : (ns : List ℕ) (i : ℕ) → i < length ns → length (marked m (drop i ns)) ≡ length (m ∷ digits (get_or ns i 0)) + length (marked m (drop (i + 1) ns))
+  pub next_length : (ns : List ℕ) (i : ℕ) → i < length ns → length (marked m (drop i ns)) ≡ length (m ∷ digits (get_or ns i 0)) + length (marked m (drop (i + 1) ns))
   next_length ns i h = rw (next_number ns i h) (length-append (m ∷ digits (get_or ns i 0)) (marked m (drop (i + 1) ns)))
 
   pub marked_append : (ms ns : List ℕ) → marked m (ms ++ ns) ≡ marked m ms ++ marked m ns

@@ -87,17 +87,17 @@ fn later(n: u8) -> u8
 
 impl Listener {
     // Whether the last codes heard are those of the string at a place.
-    fn hears(self, place: usize) -> bool
+    fn hears(&self, place: usize) -> bool
         requires { place < 5 }
-        ensures { result ≡ matches (signal self.calling place) self.heard }
+        ensures { result ≡ matches (signal self.now.calling place) self.now.heard }
     {
         matches(self.calling.strings[place], self.heard)
     }
 
     // Whether they are, and all of them came among the last n.
-    fn comes(self, place: usize, n: u8) -> bool
+    fn comes(&self, place: usize, n: u8) -> bool
         requires { place < 5 }
-        ensures { result ≡ comes (signal self.calling place) self.heard n }
+        ensures { result ≡ comes (signal self.now.calling place) self.now.heard n }
     {
         self.hears(place) & (size(self.calling.strings[place]) <= n)
     }
@@ -105,8 +105,8 @@ impl Listener {
     // Whether a motor that is off starts: by the motor power mode, n codes after the first string 93 that counts.
     // 0 stands for no such string, since `starts` of Motor.antt has it so, and no string comes within 0 codes.
     // The modes stay the paper's numbers of id 53: `starts` has them so, and a state that is not sound holds any byte there.
-    fn starts(self, n: u8) -> bool
-        ensures { result ≡ starts self.calling self.heard n }
+    fn starts(&self, n: u8) -> bool
+        ensures { result ≡ starts self.now.calling self.now.heard n }
     {
         match self.calling.power {
             2 => self.hears(0),
@@ -118,15 +118,15 @@ impl Listener {
     }
 
     // A motor that is on, after a code.
-    fn while_on(self) -> Run
-        ensures { result ≡ while_on self.calling self.heard }
+    fn while_on(&self) -> Run
+        ensures { result ≡ while_on self.now.calling self.now.heard }
     {
         if self.hears(1) { Run::Off } else { Run::On }
     }
 
     // A motor that is off, that no string 93 has called and that does not start, after a code.
-    fn while_off(self) -> Run
-        ensures { result ≡ while_off self.calling self.heard }
+    fn while_off(&self) -> Run
+        ensures { result ≡ while_off self.now.calling self.now.heard }
     {
         if self.hears(2) {
             Run::Called(0)
@@ -136,8 +136,8 @@ impl Listener {
     }
 
     // Whether the motor runs, after a code.
-    fn turned(self, r: Run) -> Run
-        ensures { result ≡ turned self.calling self.heard r }
+    fn turned(&self, r: Run) -> Run
+        ensures { result ≡ turned self.now.calling self.now.heard r }
     {
         match r {
             Run::On => self.while_on(),

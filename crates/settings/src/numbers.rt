@@ -36,7 +36,7 @@ impl Numbers {
         let mut places = [0; 10];
         places[0] = id;
         places[1] = N as u8;
-        places[2..N + 2].copy_from_slice(&values);
+        laws::copy(&values, &mut places[2..N + 2]);
         Numbers {
             places,
             count: N + 2,

@@ -11,7 +11,7 @@ fn put_settings(bytes: &mut [u8; 128], s: &Settings)
     ensures { bytes.new ≡ sets_at (puts bytes.old 6 (string_bytes s.now)) offsets 0 s.now.values }
 {
     put(bytes, 6, s.string);
-    bytes[..6].copy_from_slice(&s.values[..6]);
+    laws::copy(&s.values[..6], &mut bytes[..6]);
     bytes[41] = s.values[6];
 }
 

@@ -39,7 +39,7 @@ pub(crate) fn put<T: Spelled<N>, const N: usize>(bytes: &mut [u8; 128], at: usiz
     requires { at + N ≤ 128 }
     ensures { bytes.new ≡ puts bytes.old at (T.bytes x) }
 {
-    bytes[at..at + N].copy_from_slice(&x.to_bytes());
+    laws::copy(&x.to_bytes(), &mut bytes[at..at + N]);
 }
 
 // The part that the bytes from an offset on read as.
