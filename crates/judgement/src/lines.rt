@@ -2,7 +2,7 @@
 ghost use Rattle.std.specs.Prelude.{◌≡◌, ◌≤◌};
 ghost use Rattle.judgement.specs.Verdict.{number_of};
 ghost use Rattle.judgement.specs.Line.{bare, stand_after, seen, strike, final_at, final};
-ghost use Rattle.judgement.specs.Line.{standing, standings, count_of, alone, tally_of, plus_tally};
+ghost use Rattle.judgement.specs.Line.{standing, standings, count_of, tally_of, plus_tally};
 
 use crate::{Line, Spot, Strike, Tally, Verdict};
 use std::ops::Add;
@@ -116,31 +116,26 @@ impl Line {
         self.stand.map(move |x| standing(strays, x))
     }
 
-    // How many places hold one character.
-    fn alone(&self) -> u64
-        ensures { result ≡ alone self.now }
-    {
-        count_of(Verdict::Kept, &self.stand)
-            + count_of(Verdict::Turned, &self.stand)
-            + count_of(Verdict::Unknown, &self.stand)
-    }
-
-    // How many of each a line has.
+    // How many of each a line has. Each is counted once.
     pub fn tally(&self) -> Tally
         ensures { result ≡ tally_of self.now }
     {
-        let over = self.landed.saturating_sub(self.alone());
+        let kept = count_of(Verdict::Kept, &self.stand);
+        let turned = count_of(Verdict::Turned, &self.stand);
+        let unknown = count_of(Verdict::Unknown, &self.stand);
+        let alone = kept + turned + unknown;
+        let over = self.landed.saturating_sub(alone);
         if self.strays == 0 {
             Tally {
-                kept: count_of(Verdict::Kept, &self.stand),
-                turned: count_of(Verdict::Turned, &self.stand),
+                kept,
+                turned,
                 over,
-                unknown: count_of(Verdict::Unknown, &self.stand),
+                unknown,
             }
         } else {
             Tally {
                 over,
-                unknown: self.alone().saturating_add(self.strays),
+                unknown: alone.saturating_add(self.strays),
                 ..Tally::default()
             }
         }
