@@ -86,33 +86,40 @@ impl Sheet {
     }
 }
 
-// Prints the sheet of the input, and says on standard error what failed, and why.
+// Prints the sheet of the input, and says on standard error what failed, and why. A write that fails here ends nothing: the next one may go
+// out.
 fn print_sheet(rt: &(impl Print + Eprint), input: &mut impl Read) {
     let _ = print!(rt; "line");
     let mut sheet = Sheet::fresh();
     let told = sheet.read_all(rt, input);
     let _ = println!(rt);
-    let _ = match told {
-        Ok(()) => println!(rt; "host {}", sheet.host),
-        Err(e) => eprintln!(rt; "{e}"),
-    };
+    match told {
+        Ok(()) => {
+            let _ = print!(rt; "host ");
+            let _ = print!(rt; "{}", sheet.host);
+            let _ = println!(rt);
+        }
+        Err(e) => {
+            let _ = eprintln!(rt; "{e}");
+        }
+    }
 }
 
-// Names an argument, which the program does not take, with what stands for the rest of it, and says how the program is used.
-fn print_bad_argument(rt: &impl Print, s: &[u8], rest: &str) -> io::Result<()> {
-    print!(rt; "logsheet: argument 1, `")?;
-    rt.write_all(s)?;
-    println!(rt; "{rest}`: it takes no argument; use: ./logsheet < NIGHT")
+// Names an argument, which the program does not take, with dots for the rest of it, and says how the program is used.
+fn print_bad_argument(rt: &impl Print, s: &[u8], is_whole: bool) {
+    let _ = print!(rt; "logsheet: argument 1, `");
+    let _ = rt.write_all(s);
+    if !is_whole {
+        let _ = print!(rt; "..");
+    }
+    let _ = print!(rt; "`: it takes no argument; use: ./logsheet < NIGHT\n");
 }
 
 fn main(rt: HostRuntime) {
     let mut buf = [0u8; 64];
-    let _ = match rt.arg(1, &mut buf) {
-        Ok(n) => print_bad_argument(&rt, &buf[..n], ""),
-        Err(FillError::TooLong) => print_bad_argument(&rt, &buf, ".."),
-        Err(FillError::NotPresent) => {
-            print_sheet(&rt, &mut rt.reader());
-            Ok(())
-        }
-    };
+    match rt.arg(1, &mut buf) {
+        Ok(n) => print_bad_argument(&rt, &buf[..n], true),
+        Err(FillError::TooLong) => print_bad_argument(&rt, &buf, false),
+        Err(FillError::NotPresent) => print_sheet(&rt, &mut rt.reader()),
+    }
 }

@@ -20,9 +20,14 @@ use words::Reader;
 #[derive(Drop)]
 struct BadArgument;
 
+// What is shown goes out a text or a number at a time: standard output has no buffer, and what came out before a write that fails is as
+// it was in the older form.
+
 // Says which word is no code, and that the page ends before it. Of a word that is too long its first bytes are shown.
 fn print_bad_word(out: &mut Output<'_, impl Print>, r: &Reader) {
-    out.print(format_args!("paper: word {}, `", r.place));
+    out.print("paper: word ");
+    out.print(r.place);
+    out.print(", `");
     match r.held.get(..r.size) {
         Some(word) => out.write(word),
         None => {
@@ -44,9 +49,11 @@ fn print_row(out: &mut Output<'_, impl Print>, mark: &str, row: &[u8; 256]) {
 
 // Prints a stretch.
 fn print_stretch(out: &mut Output<'_, impl Print>, s: Stretch) {
-    out.print(format_args!(" {}", s.from));
+    out.print(" ");
+    out.print(s.from);
     if s.from < s.to {
-        out.print(format_args!("-{}", s.to));
+        out.print("-");
+        out.print(s.to);
     }
 }
 
@@ -72,7 +79,8 @@ fn print_places(out: &mut Output<'_, impl Print>, name: &str, standings: &[u8], 
 // Prints which places of a line can be kept, and which cannot.
 fn print_kept(out: &mut Output<'_, impl Print>, line: &Line, number: u64) {
     let standings = line.standings();
-    out.print(format_args!("  line {number}"));
+    out.print("  line ");
+    out.print(number);
     if standings.contains(&u8::from(Verdict::Kept)) {
         print_places(out, ": kept", &standings, Verdict::Kept);
     } else if show::is_marked(line) {
@@ -84,7 +92,8 @@ fn print_kept(out: &mut Output<'_, impl Print>, line: &Line, number: u64) {
     print_places(out, "; struck over", &standings, Verdict::Over);
     print_places(out, "; unknown", &standings, Verdict::Unknown);
     if line.strays > 0 {
-        out.print(format_args!("; unknown where {}", line.strays));
+        out.print("; unknown where ");
+        out.print(line.strays);
     }
     out.print("\n");
 }
@@ -102,18 +111,29 @@ fn print_line(out: &mut Output<'_, impl Print>, line: &Line, number: u64) {
 
 // Prints the totals.
 fn print_totals(out: &mut Output<'_, impl Print>, t: Tally) {
-    out.print(format_args!("total: kept {}, turned {}, ", t.kept, t.turned));
-    out.print(format_args!("struck over {}, unknown {}\n", t.over, t.unknown));
+    out.print("total: kept ");
+    out.print(t.kept);
+    out.print(", turned ");
+    out.print(t.turned);
+    out.print(", struck over ");
+    out.print(t.over);
+    out.print(", unknown ");
+    out.print(t.unknown);
+    out.print("\n");
 }
 
 // Says which argument is none, and what there is.
 fn print_bad_argument(out: &mut Output<'_, impl Print>, i: usize, s: &[u8]) {
-    out.print(format_args!("paper: argument {i}, `"));
+    out.print("paper: argument ");
+    out.print(i);
+    out.print(", `");
     out.write(s);
-    out.print("`, is none of these:\n");
-    out.print("  stop=N  (72) the right stop, 0 to 255: how many places stand before it\n");
-    out.print("  space=unshifts or space=keeps  (keeps)\n");
-    out.print("  return=unshifts or return=keeps  (keeps)\n");
+    out.print(
+        "`, is none of these:\n  stop=N  (72) the right stop, 0 to 255: how many places stand before it\n",
+    );
+    out.print(
+        "  space=unshifts or space=keeps  (keeps)\n  return=unshifts or return=keeps  (keeps)\n",
+    );
     out.print("  case=letters, case=figures or case=unknown  (unknown) at the start\n");
     out.print("  place=N or place=unknown  (unknown) at the start, 0 to 255\n");
 }

@@ -12,7 +12,6 @@ use entries::tables::{Entry, run_entry};
 use entries::text::{Form, after_bar, before_bar, byte_at, decode, front};
 use entries::traces::{Ran, Start, judged, prepared, ready};
 use linebox::{Answer, Called};
-use std::io;
 use std::io::Read;
 use step::Stream;
 
@@ -29,8 +28,17 @@ impl Tally {
         self.run = self.run.wrapping_add(1);
         if !same {
             self.differ = self.differ.wrapping_add(1);
-            let _ = print_differs(rt, s);
+            print_differs(rt, s);
         }
+    }
+
+    // Prints the name of a kind of vectors, what one is called, and this tally of them.
+    fn print(&self, rt: &impl Print, name: &str, each: &str) {
+        let _ = print!(rt; "{name}");
+        let _ = print!(rt; "{}", self.run);
+        let _ = print!(rt; "{each}");
+        let _ = print!(rt; "{}", self.differ);
+        let _ = print!(rt; " differ\n");
     }
 }
 
@@ -43,11 +51,11 @@ struct Tallies {
     next: Start,
 }
 
-// Prints a vector that differs.
-fn print_differs(rt: &impl Print, s: &[u8]) -> io::Result<()> {
-    print!(rt; "differs: ")?;
-    rt.write_all(s)?;
-    println!(rt)
+// Prints a vector that differs. A write that fails, here and below, ends nothing: the next one may go out.
+fn print_differs(rt: &impl Print, s: &[u8]) {
+    let _ = print!(rt; "differs: ");
+    let _ = rt.write_all(s);
+    let _ = println!(rt);
 }
 
 // The bytes that a text spells, in a lent buffer.
@@ -72,14 +80,14 @@ fn is_shown(form: Form, s: &[u8], text: &[u8]) -> bool {
 }
 
 // Prints what a box gave.
-fn print_shown(rt: &impl Print, form: Form, s: &[u8]) -> io::Result<()> {
+fn print_shown(rt: &impl Print, form: Form, s: &[u8]) {
     let mut out = [0u8; 1024];
-    print!(rt; "gave:")?;
-    match form {
-        Form::Decimal => rt.write_all(spelled(s, &mut out))?,
-        Form::Escaped => rt.write_all(s)?,
-    }
-    print!(rt; "; ")
+    let _ = print!(rt; "gave:");
+    let _ = match form {
+        Form::Decimal => rt.write_all(spelled(s, &mut out)),
+        Form::Escaped => rt.write_all(s),
+    };
+    let _ = print!(rt; "; ");
 }
 
 // A call's answer and the count it took are those of a text, or all that was left where the text is empty.
@@ -122,8 +130,8 @@ fn run_call(rt: &impl Print, t: Stream, b: Start, s: &[u8]) -> Ran {
         && is_shown(Form::first(t), sent, before_bar(first))
         && is_shown(Form::second(t), told, before_bar(second));
     if !same {
-        let _ = print_shown(rt, Form::first(t), sent);
-        let _ = print_shown(rt, Form::second(t), told);
+        print_shown(rt, Form::first(t), sent);
+        print_shown(rt, Form::second(t), told);
     }
     judged(same, r.state)
 }
@@ -135,7 +143,7 @@ fn run_find(rt: &impl Print, b: Start, s: &[u8]) -> Ran {
     let found = message::find(decoded(Form::Escaped, before_bar(given), &mut input));
     let same = is_shown(Form::Escaped, found, before_bar(after_bar(given)));
     if !same {
-        let _ = print_shown(rt, Form::Escaped, found);
+        print_shown(rt, Form::Escaped, found);
     }
     judged(same, b.state)
 }
@@ -205,16 +213,7 @@ fn main(rt: HostRuntime) {
     let n = read_full(&mut rt.reader(), &mut text);
     let mut t = Tallies::fresh();
     t.run_all(&rt, &text[..n]);
-    let _ = println!(&rt;
-        "ASCII-67 to USTTY: {} entries, {} differ",
-        t.ascii.run, t.ascii.differ
-    );
-    let _ = println!(&rt;
-        "USTTY to ASCII-67: {} entries, {} differ",
-        t.ustty.run, t.ustty.differ
-    );
-    let _ = println!(&rt;
-        "Traces and commands: {} vectors, {} differ",
-        t.traces.run, t.traces.differ
-    );
+    t.ascii.print(&rt, "ASCII-67 to USTTY: ", " entries, ");
+    t.ustty.print(&rt, "USTTY to ASCII-67: ", " entries, ");
+    t.traces.print(&rt, "Traces and commands: ", " vectors, ");
 }
