@@ -102,7 +102,7 @@ module _ (t : Stream) (start : State) (input old₁ old₂ : List ℕ) where
       }
 
   -- where the loop stops
-  stops : (s : State) (left now₁ now₂ : List ℕ) (k₁ k₂ : ℕ) (answer : Answer) → Reached t start input old₁ old₂ s left now₁ now₂ k₁ k₂
+  pub stops : (s : State) (left now₁ now₂ : List ℕ) (k₁ k₂ : ℕ) (answer : Answer) → Reached t start input old₁ old₂ s left now₁ now₂ k₁ k₂
       → taking t s left (length old₁ - k₁) (length old₂ - k₂) ≡ stopped (number_of answer) s
       → Calls (taking t start input (length old₁) (length old₂)) old₁ old₂ now₁ now₂ (record { answer = answer; taken = length input - length left; first = k₁; second = k₂; state = s })
   stops s left now₁ now₂ k₁ k₂ answer r e = rw (r.rest, e) (record {

@@ -1,6 +1,6 @@
 -- The loop over bytes that go out: what is reached after some of them, and one turn more.
 -- Assumes nothing.
-use Prim.Native.Nat.{ℕ, suc, ◌+◌, ◌-◌, ◌≤◌, ◌<◌}
+use Prim.Native.Nat.{ℕ, suc, ◌+◌, ◌*◌, ◌-◌, ◌≤◌, ◌<◌}
 use mathlib.Core.Path.{◌≡◌, refl, ap, ◌∙◌}
 use mathlib.Core.Bool.{Bool, true, false, cond}
 use lib.Dec.{leb}
@@ -10,11 +10,14 @@ use native.Mathlib.Numerals.{add-one}
 use borrow.Rule.Slice.PartMut.{put_mid, mid_of}
 use lib.ListN.{length, get_or, drop}
 use lib.Seq.{drop-cons}
+use borrow.Author.Tests.{le-leb}
 use Rattle.laws.specs.Written.{Filled}
 use Rattle.laws.proofs.Filled.{filled_on}
-use Rattle.sender.specs.Names.{Settings, Sender, Asks, Until, Noted}
-use Rattle.sender.specs.Item.{items, after_items, wanted_by}
+use Rattle.sender.specs.Names.{Settings, Sender, Asks, Text, Until, Never, Noted}
+use Rattle.sender.specs.Item.{items, after_items, converted, wanted_by, wanted_text}
 use Rattle.sender.specs.Run.{asks_next, stops_at, Run, no_run, run_on, most, run_of, PutsItems}
+use Rattle.sender.proofs.Append.{items_append, after_append}
+use Rattle.sender.proofs.Few.{byte_most}
 
 -- n bytes sent as p, before the rest
 abbrev before : ℕ → List ℕ → Run → Run
@@ -68,6 +71,17 @@ run_within o s asks until (b ∷ bs) room = go (stops_at until b) (leb most room
     go true fits h = omega arith
     go false true h = omega (arith, h)
     go false false h = omega arith
+
+-- where each byte's most has room, all of a text goes out
+pub text_run : (o : Settings) (s : Sender) (bs : List ℕ) (room : ℕ) → most * length bs ≤ room
+    → run_of o s Text Never bs room ≡ record { sender = after_items o s (wanted_text o bs); asks = Text; taken = length bs; codes = items o s (wanted_text o bs) }
+text_run o s [] room h = refl
+text_run o s (b ∷ bs) room h =
+    let ws = wanted_by o Text b in
+    let n = byte_most o s (converted o Text b) in
+    let u : leb most room ≡ true = le-leb most room (omega (arith, h)) in
+    let v : most * length bs ≤ room - length (items o s ws) = omega (arith, h, n) in
+    rw (u, text_run o (after_items o s ws) bs (room - length (items o s ws)) v, items_append o s ws (wanted_text o bs), after_append o s ws (wanted_text o bs))
 
 -- no bytes, no codes
 pub run_none : (o : Settings) (s : Sender) (asks : Asks) (until : Until) (bs : List ℕ) (room : ℕ) → (run_of o s asks until bs room).taken ≡ 0 → (run_of o s asks until bs room).codes ≡ []

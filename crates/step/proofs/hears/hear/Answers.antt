@@ -2,7 +2,7 @@
 use mathlib.Core.Path.{◌≡◌, sym, ◌∙◌}
 use mathlib.Core.Bool.{true, false}
 use Rattle.step.specs.Hear.{listens}
-use Rattle.step.proofs.Hearing.{deaf_motor, deaf_told, few_port, few_powered, both_motor, both_told}
+use Rattle.step.proofs.Hearing.{deaf_motor, deaf_told, few_port, few_powered, heard_both_law}
 use Rattle.step.proofs.hears.hear.Goals as goal
 
 pub returns-then-not-is_heard : goal.returns-then-not-is_heard
@@ -21,7 +21,8 @@ returns c =
     let s = c.args.s in
     let e : listens s.calling s.connection ≡ true = sym c.is_heard.ensures ∙ c.if-not-is_heard.false in
     let x = c.speak-first.result in
+    let both = heard_both_law s x.0 x.1 e in
     record {
-      motor = rw (c.hear_item-last.ensures, c.hear_item-then.ensures, ← c.speak-first.ensures) (both_motor s x.0 x.1 e);
-      tells = rw (c.from.ensures, c.from-2.ensures, c.from-3.ensures, c.is_on.ensures, c.is_on-2.ensures, c.is_on-3.ensures, c.hear_item-last.ensures, c.hear_item-then.ensures, ← c.speak-first.ensures) (both_told s x.0 x.1 e);
+      motor = rw (c.hear_item-last.ensures, c.hear_item-then.ensures, ← c.speak-first.ensures) both.motor;
+      tells = rw (c.from.ensures, c.from-2.ensures, c.from-3.ensures, c.is_on.ensures, c.is_on-2.ensures, c.is_on-3.ensures, c.hear_item-last.ensures, c.hear_item-then.ensures, ← c.speak-first.ensures) both.tells;
     }
